@@ -1,0 +1,9 @@
+pub mod Tests
+pub mod Tag
+pub mod TagLaws
+pub mod Range
+pub mod RangeLaws
+pub mod Step
+pub mod StepLaws
+pub mod Worked
+pub mod Settled

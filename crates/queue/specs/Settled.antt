@@ -1,0 +1,27 @@
+-- What the public functions promise settles their answers: two answers that a promise allows are equal.
+use mathlib.Core.Path.{_≡_, sym, _∙_}
+use mathlib.Core.Bool.{Bool}
+use mathlib.Core.List.{List}
+use Prim.Native.Nat.{ℕ}
+use Rattle.queue.specs.Range.{inRange}
+use Rattle.queue.specs.Step.{loadedSlot, stepOf, StepOn}
+use Rattle.queue.specs.declared.Word.{Word}
+use Rattle.queue.specs.declared.Stage.{Stage}
+use Rattle.queue.specs.declared.Load.{Load}
+use Rattle.queue.specs.declared.Stepped.{Stepped}
+
+one-value : {A : Type 0} {x y z : A} → x ≡ z → y ≡ z → x ≡ y
+one-value p q = p ∙ sym q
+
+pub in-range-settled : (W C slots : ℕ) (w : Word) (s : Stage) (r r′ : Bool) → r ≡ inRange W C slots w s → r′ ≡ inRange W C slots w s → r ≡ r′
+in-range-settled W C slots w s r r′ p q = one-value p q
+
+pub loaded-slot-settled : (s : Stage) (r r′ : Load) → r ≡ loadedSlot s → r′ ≡ loadedSlot s → r ≡ r′
+loaded-slot-settled s r r′ p q = one-value p q
+
+pub step-settled : (W C : ℕ) (w : Word) (v : ℕ) (s : Stage) (r r′ : Stepped) → r ≡ stepOf W C w v s → r′ ≡ stepOf W C w v s → r ≡ r′
+step-settled W C w v s r r′ p q = one-value p q
+
+pub step-on-settled : (W C : ℕ) (w : Word) (slots : List ℕ) (s : Stage) (r r′ : Stepped) (l l′ : List ℕ) →
+    StepOn W C w slots s r l → StepOn W C w slots s r′ l′ → (r ≡ r′) × (l ≡ l′)
+step-on-settled W C w slots s r r′ l l′ p q = (one-value (p .stepped) (q .stepped), one-value (p .kept) (q .kept))

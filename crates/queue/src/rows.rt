@@ -1,0 +1,232 @@
+// The rows of document 01's table, each by its own name: the access, then the local work. In a row's promise 0 stands for a number
+// that the row does not use.
+ghost use mathlib.Core.Path.{_≡_};
+ghost use Prim.Native.Nat.{_-_, _≤_, _<_};
+ghost use Rattle.queue.specs.RangeLaws.{InRange};
+ghost use Rattle.queue.specs.Step.{still as stillOf, resets, sameAge, rowOf};
+use crate::Next;
+use crate::Stage;
+use crate::Stepped;
+use crate::Store;
+use crate::Word;
+use crate::tag::next_tag;
+
+// A step that stores in no slot and is no reset.
+pub(crate) fn still(word: Word, next: Next) -> Stepped
+    ensures { λ r. ⌜ r ≡ stillOf word next ⌝ }
+{
+    Stepped {
+        word,
+        store: Store::Nothing,
+        reset: false,
+        next,
+    }
+}
+
+// Age becomes (0, next g).
+fn reset(width: u8, word: Word, g: u16, next: Next) -> Stepped
+    requires { ⌜ width ≤ 16 ⌝ }
+    ensures { λ r. ⌜ r ≡ resets width word g next ⌝ }
+{
+    Stepped {
+        word: Word {
+            top: 0,
+            tag: next_tag(width, g),
+            ..word
+        },
+        store: Store::Nothing,
+        reset: true,
+        next,
+    }
+}
+
+// Age is still (t, g).
+fn same_age(word: Word, t: u16, g: u16) -> bool
+    ensures { λ r. ⌜ r ≡ sameAge word t g ⌝ }
+{
+    (word.top == t) & (word.tag == g)
+}
+
+// What lies below b; 0 has nothing below it.
+pub(crate) fn below(b: u16) -> u16
+    ensures { λ r. ⌜ r ≡ b - 1 ⌝ }
+{
+    if b == 0 { 0 } else { b - 1 }
+}
+
+// Load bottom as b; b = C: return FULL.
+fn p1(size: u8, word: Word, node: u16) -> Stepped
+    ensures { λ r. ⌜ r ≡ rowOf 0 size word 0 (Stage.P1 node) ⌝ }
+{
+    let b = word.bottom;
+    if b == size as u16 {
+        still(word, Next::Full)
+    } else {
+        still(word, Next::Going(Stage::P2 { node, b }))
+    }
+}
+
+// Store the node in slot b.
+fn p2(word: Word, node: u16, b: u16) -> Stepped
+    ensures { λ r. ⌜ r ≡ rowOf 0 0 word 0 (Stage.P2 node b) ⌝ }
+{
+    Stepped {
+        word,
+        store: Store::Slot(b, node),
+        reset: false,
+        next: Next::Going(Stage::P3 { b }),
+    }
+}
+
+// Store b+1 in bottom; return done.
+fn p3(word: Word, b: u16) -> Stepped
+    requires { ⌜ b < 64 ⌝ }
+    ensures { λ r. ⌜ r ≡ rowOf 0 0 word 0 (Stage.P3 b) ⌝ }
+{
+    let bottom = b + 1;
+    still(Word { bottom, ..word }, Next::Done)
+}
+
+// Load age as (t, g).
+fn t1(word: Word) -> Stepped
+    ensures { λ r. ⌜ r ≡ rowOf 0 0 word 0 Stage.T1 ⌝ }
+{
+    let t = word.top;
+    let g = word.tag;
+    still(word, Next::Going(Stage::T2 { t, g }))
+}
+
+// Load bottom as b; b ≤ t: return NIL.
+fn t2(word: Word, t: u16, g: u16) -> Stepped
+    ensures { λ r. ⌜ r ≡ rowOf 0 0 word 0 (Stage.T2 t g) ⌝ }
+{
+    let b = word.bottom;
+    if b <= t {
+        still(word, Next::Nil)
+    } else {
+        still(word, Next::Going(Stage::T3 { t, g, b }))
+    }
+}
+
+// Load slot t.
+fn t3(word: Word, x: u16, t: u16, g: u16, b: u16) -> Stepped
+    ensures { λ r. ⌜ r ≡ rowOf 0 0 word x (Stage.T3 t g b) ⌝ }
+{
+    still(word, Next::Going(Stage::T4 { t, g, b, x }))
+}
+
+// If age is still (t, g), age becomes (t+1, g); changed: return the node; else NIL.
+fn t4(word: Word, t: u16, g: u16, b: u16, x: u16) -> Stepped
+    requires { ⌜ t < 64 ⌝ }
+    ensures { λ r. ⌜ r ≡ rowOf 0 0 word 0 (Stage.T4 t g b x) ⌝ }
+{
+    if same_age(word, t, g) {
+        let top = t + 1;
+        still(
+            Word {
+                top,
+                tag: g,
+                ..word
+            },
+            Next::Node(x),
+        )
+    } else {
+        still(word, Next::Nil)
+    }
+}
+
+// Load bottom as b; b = 0: return NIL.
+fn b1(word: Word) -> Stepped
+    ensures { λ r. ⌜ r ≡ rowOf 0 0 word 0 Stage.B1 ⌝ }
+{
+    let b = word.bottom;
+    if b == 0 {
+        still(word, Next::Nil)
+    } else {
+        still(word, Next::Going(Stage::B2 { b }))
+    }
+}
+
+// Store b−1 in bottom.
+fn b2(word: Word, b: u16) -> Stepped
+    ensures { λ r. ⌜ r ≡ rowOf 0 0 word 0 (Stage.B2 b) ⌝ }
+{
+    let bottom = below(b);
+    still(Word { bottom, ..word }, Next::Going(Stage::B3 { b }))
+}
+
+// Load slot b−1.
+fn b3(word: Word, x: u16, b: u16) -> Stepped
+    ensures { λ r. ⌜ r ≡ rowOf 0 0 word x (Stage.B3 b) ⌝ }
+{
+    still(word, Next::Going(Stage::B4 { b, x }))
+}
+
+// Load age as (t, g); b−1 > t: return the node.
+fn b4(word: Word, b: u16, x: u16) -> Stepped
+    ensures { λ r. ⌜ r ≡ rowOf 0 0 word 0 (Stage.B4 b x) ⌝ }
+{
+    let t = word.top;
+    let g = word.tag;
+    if t < below(b) {
+        still(word, Next::Node(x))
+    } else {
+        still(word, Next::Going(Stage::B5 { b, x, t, g }))
+    }
+}
+
+// Store 0 in bottom; b−1 = t: go to B6; else B7.
+fn b5(word: Word, b: u16, x: u16, t: u16, g: u16) -> Stepped
+    ensures { λ r. ⌜ r ≡ rowOf 0 0 word 0 (Stage.B5 b x t g) ⌝ }
+{
+    let emptied = Word { bottom: 0, ..word };
+    if below(b) == t {
+        still(emptied, Next::Going(Stage::B6 { b, x, t, g }))
+    } else {
+        still(emptied, Next::Going(Stage::B7 { b, x, t, g }))
+    }
+}
+
+// If age is still (t, g), age becomes (0, next g); changed: return the node; else B7.
+fn b6(width: u8, word: Word, b: u16, x: u16, t: u16, g: u16) -> Stepped
+    requires { ⌜ width ≤ 16 ⌝ }
+    ensures { λ r. ⌜ r ≡ rowOf width 0 word 0 (Stage.B6 b x t g) ⌝ }
+{
+    if same_age(word, t, g) {
+        reset(width, word, g, Next::Node(x))
+    } else {
+        still(word, Next::Going(Stage::B7 { b, x, t, g }))
+    }
+}
+
+// Store (0, next g) in age; return NIL.
+fn b7(width: u8, word: Word, g: u16) -> Stepped
+    requires { ⌜ width ≤ 16 ⌝ }
+    ensures { λ r. ⌜ r ≡ resets width word g Next.Nil ⌝ }
+{
+    reset(width, word, g, Next::Nil)
+}
+
+// The row of a stage that is in range.
+pub(crate) fn row(width: u8, size: u8, word: Word, loaded: u16, stage: Stage) -> Stepped
+    requires { ⌜ InRange width size size word stage ⌝ }
+    ensures { λ r. ⌜ r ≡ rowOf width size word loaded stage ⌝ }
+{
+    match stage {
+        Stage::Idle => still(word, Next::Going(Stage::Idle)),
+        Stage::P1 { node } => p1(size, word, node),
+        Stage::P2 { node, b } => p2(word, node, b),
+        Stage::P3 { b } => p3(word, b),
+        Stage::T1 => t1(word),
+        Stage::T2 { t, g } => t2(word, t, g),
+        Stage::T3 { t, g, b } => t3(word, loaded, t, g, b),
+        Stage::T4 { t, g, b, x } => t4(word, t, g, b, x),
+        Stage::B1 => b1(word),
+        Stage::B2 { b } => b2(word, b),
+        Stage::B3 { b } => b3(word, loaded, b),
+        Stage::B4 { b, x } => b4(word, b, x),
+        Stage::B5 { b, x, t, g } => b5(word, b, x, t, g),
+        Stage::B6 { b, x, t, g } => b6(width, word, b, x, t, g),
+        Stage::B7 { g, .. } => b7(width, word, g),
+    }
+}

@@ -1,0 +1,29 @@
+// The tag beside the top index.
+ghost use mathlib.Core.Path.{_≡_};
+ghost use Prim.Native.Nat.{_≤_};
+ghost use Rattle.queue.specs.Tag.{nextTag, isTag};
+
+// The tag after g, in width bits; at 16 bits it goes round as a u16 does.
+pub(crate) fn next_tag(width: u8, g: u16) -> u16
+    requires { ⌜ width ≤ 16 ⌝ }
+    ensures { λ r. ⌜ r ≡ nextTag width g ⌝ }
+{
+    let up = std::num::wrapping_add_u16(g, 1);
+    if width < 16 {
+        let tags = 1u16 << width;
+        up % tags
+    } else {
+        up
+    }
+}
+
+pub(crate) fn is_tag(width: u8, g: u16) -> bool
+    ensures { λ r. ⌜ r ≡ isTag width g ⌝ }
+{
+    if width < 16 {
+        let tags = 1u16 << width;
+        g < tags
+    } else {
+        true
+    }
+}
