@@ -1,6 +1,7 @@
 pub mod Tests
 pub mod Tag
 pub mod TagLaws
+pub mod Stages
 pub mod Range
 pub mod RangeLaws
 pub mod Step

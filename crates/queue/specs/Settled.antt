@@ -3,6 +3,7 @@ use mathlib.Core.Path.{_≡_, sym, _∙_}
 use mathlib.Core.Bool.{Bool}
 use mathlib.Core.List.{List}
 use Prim.Native.Nat.{ℕ}
+use Rattle.queue.specs.Stages.{rowNumber, poppedFrom}
 use Rattle.queue.specs.Range.{inRange}
 use Rattle.queue.specs.Step.{loadedSlot, stepOf, StepOn}
 use Rattle.queue.specs.declared.Word.{Word}
@@ -15,6 +16,12 @@ one-value p q = p ∙ sym q
 
 pub in-range-settled : (W C slots : ℕ) (w : Word) (s : Stage) (r r′ : Bool) → r ≡ inRange W C slots w s → r′ ≡ inRange W C slots w s → r ≡ r′
 in-range-settled W C slots w s r r′ p q = one-value p q
+
+pub row-number-settled : (s : Stage) (r r′ : ℕ) → r ≡ rowNumber s → r′ ≡ rowNumber s → r ≡ r′
+row-number-settled s r r′ p q = one-value p q
+
+pub popped-from-settled : (s : Stage) (r r′ : ℕ) → r ≡ poppedFrom s → r′ ≡ poppedFrom s → r ≡ r′
+popped-from-settled s r r′ p q = one-value p q
 
 pub loaded-slot-settled : (s : Stage) (r r′ : Load) → r ≡ loadedSlot s → r′ ≡ loadedSlot s → r ≡ r′
 loaded-slot-settled s r r′ p q = one-value p q

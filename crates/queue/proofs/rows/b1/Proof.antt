@@ -1,6 +1,6 @@
 -- `rows::b1` meets its contract.
-use Rattle.queue.specs.Tests.{tests}
 use borrow.Author.Needs.{needs}
+use Rattle.queue.specs.Tests.{tests}
 use Rattle.queue.proofs.rows.b1.Statement.{statement}
 use Rattle.queue.proofs.rows.b1.Tie as tie
 

@@ -1,6 +1,6 @@
 -- `rows::p1` meets its contract.
-use Rattle.queue.specs.Tests.{tests}
 use borrow.Author.Needs.{needs}
+use Rattle.queue.specs.Tests.{tests}
 use Rattle.queue.proofs.rows.p1.Statement.{statement}
 use Rattle.queue.proofs.rows.p1.Tie as tie
 

@@ -1,6 +1,6 @@
 -- `rows::t2` meets its contract.
-use Rattle.queue.specs.Tests.{tests}
 use borrow.Author.Needs.{needs}
+use Rattle.queue.specs.Tests.{tests}
 use Rattle.queue.proofs.rows.t2.Statement.{statement}
 use Rattle.queue.proofs.rows.t2.Tie as tie
 
