@@ -3,7 +3,7 @@ use mathlib.Core.Path.{_≡_, sym, _∙_}
 use mathlib.Core.Bool.{Bool}
 use mathlib.Core.List.{List}
 use Prim.Native.Nat.{ℕ}
-use Rattle.queue.specs.Stages.{rowNumber, poppedFrom}
+use Rattle.queue.specs.Stages.{rowNumber, popsSlot}
 use Rattle.queue.specs.Range.{inRange}
 use Rattle.queue.specs.Step.{loadedSlot, stepOf, StepOn}
 use Rattle.queue.specs.declared.Word.{Word}
@@ -20,8 +20,12 @@ in-range-settled W C slots w s r r′ p q = one-value p q
 pub row-number-settled : (s : Stage) (r r′ : ℕ) → r ≡ rowNumber s → r′ ≡ rowNumber s → r ≡ r′
 row-number-settled s r r′ p q = one-value p q
 
-pub popped-from-settled : (s : Stage) (r r′ : ℕ) → r ≡ poppedFrom s → r′ ≡ poppedFrom s → r ≡ r′
-popped-from-settled s r r′ p q = one-value p q
+-- of is_idle, at_t1, at_b2 and past_b2
+pub stands-settled : (f : Stage → Bool) (s : Stage) (r r′ : Bool) → r ≡ f s → r′ ≡ f s → r ≡ r′
+stands-settled f s r r′ p q = one-value p q
+
+pub pops-slot-settled : (s : Stage) (t : ℕ) (r r′ : Bool) → r ≡ popsSlot s t → r′ ≡ popsSlot s t → r ≡ r′
+pops-slot-settled s t r r′ p q = one-value p q
 
 pub loaded-slot-settled : (s : Stage) (r r′ : Load) → r ≡ loadedSlot s → r′ ≡ loadedSlot s → r ≡ r′
 loaded-slot-settled s r r′ p q = one-value p q

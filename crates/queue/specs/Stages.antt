@@ -1,6 +1,6 @@
 -- Where a stage stands: the row of document 01's table, numbered from 1 in its order, and 0 for idle.
-use Prim.Native.Nat.{ℕ}
-use mathlib.Core.Bool.{Bool}
+use Prim.Native.Nat.{ℕ, _-_}
+use mathlib.Core.Bool.{Bool, _&&_}
 use lib.Dec.{eqb, ltb}
 use Rattle.queue.specs.declared.Stage.{Stage}
 use Rattle.queue.specs.declared.Stage.the-variants.{Idle, P1, P2, P3, T1, T2, T3, T4, B1, B2, B3, B4, B5, B6, B7}
@@ -52,3 +52,7 @@ poppedFrom (B4 b x) = b
 poppedFrom (B5 b x t g) = b
 poppedFrom (B6 b x t g) = b
 poppedFrom (B7 b x t g) = b
+
+-- in a bottom pop past B2 with b−1 = t
+abbrev pub popsSlot : Stage → ℕ → Bool
+popsSlot s t = pastB2 s && eqb (poppedFrom s - 1) t

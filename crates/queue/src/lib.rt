@@ -1,11 +1,11 @@
 // The step of the queue: document 01's table, one shared access with the local work after it, by value.
 // It knows nothing of how slots lie, of processes or of runs.
 ghost use mathlib.Core.Path.{_≡_};
-ghost use Rattle.queue.specs.Stages.{rowNumber, poppedFrom};
 ghost use Rattle.queue.specs.Step.{loadedSlot, loaded, stored, stepOf, StepOn};
 
 pub mod range; // what can be stepped
 mod rows; // the rows of the table
+pub mod stages; // where a stage stands
 mod tag; // the tag, which goes round
 
 // The control word of one queue: bottom, and the age of top and tag.
@@ -61,52 +61,6 @@ pub struct Stepped {
     pub store: Store,
     pub reset: bool,
     pub next: Next,
-}
-
-// The row of the table that a stage stands at, from 1; an idle stage stands at 0.
-pub fn row_number(stage: Stage) -> u8
-    ensures { λ r. ⌜ r ≡ rowNumber stage ⌝ }
-{
-    match stage {
-        Stage::Idle => 0,
-        Stage::P1 { .. } => 1,
-        Stage::P2 { .. } => 2,
-        Stage::P3 { .. } => 3,
-        Stage::T1 => 4,
-        Stage::T2 { .. } => 5,
-        Stage::T3 { .. } => 6,
-        Stage::T4 { .. } => 7,
-        Stage::B1 => 8,
-        Stage::B2 { .. } => 9,
-        Stage::B3 { .. } => 10,
-        Stage::B4 { .. } => 11,
-        Stage::B5 { .. } => 12,
-        Stage::B6 { .. } => 13,
-        Stage::B7 { .. } => 14,
-    }
-}
-
-// The b that a bottom pop has loaded; 0 where there is none.
-pub fn popped_from(stage: Stage) -> u16
-    ensures { λ r. ⌜ r ≡ poppedFrom stage ⌝ }
-{
-    match stage {
-        Stage::Idle => 0,
-        Stage::P1 { .. } => 0,
-        Stage::P2 { .. } => 0,
-        Stage::P3 { .. } => 0,
-        Stage::T1 => 0,
-        Stage::T2 { .. } => 0,
-        Stage::T3 { .. } => 0,
-        Stage::T4 { .. } => 0,
-        Stage::B1 => 0,
-        Stage::B2 { b } => b,
-        Stage::B3 { b } => b,
-        Stage::B4 { b, .. } => b,
-        Stage::B5 { b, .. } => b,
-        Stage::B6 { b, .. } => b,
-        Stage::B7 { b, .. } => b,
-    }
 }
 
 // The slot that a stage loads; only T3 and B3 load one.

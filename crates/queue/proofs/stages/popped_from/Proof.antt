@@ -1,7 +1,7 @@
--- `popped_from` meets its contract.
+-- `stages::popped_from` meets its contract.
 use borrow.Author.Needs.{needs}
-use Rattle.queue.proofs.popped_from.Statement.{statement}
-use Rattle.queue.proofs.popped_from.Tie as tie
+use Rattle.queue.proofs.stages.popped_from.Statement.{statement}
+use Rattle.queue.proofs.stages.popped_from.Tie as tie
 
 enum-told : tie.Need-enum-told
 enum-told c = search needs
