@@ -1,0 +1,72 @@
+-- What is left of the calls decides as all of them do (`any-next`); call j of them is `callAt` (`call-get`).
+use borrow.Author.Needs.{needs}
+use mathlib.Core.Path.{_≡_, refl, sym, _∙_}
+use Prim.Native.Nat.{_-_, _≤_}
+use lib.ListN.{drop}
+use Rattle.runfile.specs.Check.{any}
+use Rattle.runfile.specs.File.{firstCalls, pushes, pushedEarlier}
+use Rattle.runfile.specs.CallLaws.{earlier-next, earlier-found, earlier-end}
+use Rattle.runfile.proofs.pushed_earlier.Statement.{statement}
+use Rattle.runfile.proofs.pushed_earlier.Tie as tie
+
+abbrev Inv-loop : tie.InvT-loop
+Inv-loop file processes k node j₀ j = (any (pushes node) (drop j (firstCalls file processes k)) ≡ pushedEarlier file processes k node) × (j ≤ k)
+
+abbrev μ-loop : tie.MeasureT-loop
+μ-loop file processes k node j₀ j = k - j
+
+loop-holds : tie.Need-loop-holds Inv-loop μ-loop
+loop-holds c = (refl, search needs)
+
+call-at-requires : tie.Need-call-at-requires Inv-loop μ-loop
+call-at-requires c κs = search needs
+
+is-push-requires : tie.Need-is-push-requires Inv-loop μ-loop
+is-push-requires c κs = search needs
+
+returns : tie.Need-returns Inv-loop μ-loop
+returns c =
+    let a = c .before .before .before .before .before .before .args in
+    let l = c .before .before .before .before .loop in
+    let call = c .before .before .call-at in
+    earlier-found (a .file .now) (a .processes) (a .k) (a .node) (l .j) (call .result) (c .before .before .before .loop-test .taken) (call .ensures)
+    (sym (c .before .is-push .ensures) ∙ c .if1 .taken)
+    ∙ l .inv .0
+
+add-j : tie.Need-add-j Inv-loop μ-loop
+add-j c = search needs
+
+loop-less : tie.Need-loop-less Inv-loop μ-loop
+loop-less c = search needs
+
+loop-again : tie.Need-loop-again Inv-loop μ-loop
+loop-again c =
+    let a = c .before .before .before .before .before .before .args in
+    let l = c .before .before .before .before .loop in
+    let call = c .before .before .call-at in (
+      earlier-next (a .file .now) (a .processes) (a .k) (a .node) (l .j) (call .result) (c .before .before .before .loop-test .taken) (call .ensures)
+          (sym (c .before .is-push .ensures) ∙ c .if1 .left)
+          ∙ l .inv .0,
+      search needs,
+    )
+
+returns-2 : tie.Need-returns-2 Inv-loop μ-loop
+returns-2 c =
+    let a = c .before .before .before .args in
+    let l = c .before .loop in
+    earlier-end (a .file .now) (a .processes) (a .k) (a .node) (l .j) (c .loop-test .left) ∙ l .inv .0
+
+pub pushed-earlier-spec : {M : Type 1} → statement M
+pushed-earlier-spec =
+    tie.close
+    (tie.spec
+    Inv-loop
+    μ-loop
+    loop-holds
+    call-at-requires
+    is-push-requires
+    returns
+    add-j
+    loop-less
+    loop-again
+    returns-2)

@@ -1,0 +1,33 @@
+-- How a refusal is decided: a chain of tests, each with its number, and the first that fails gives the number; 0 means that none does.
+use mathlib.Core.Bool.{Bool, false, cond, _||_}
+use mathlib.Core.List.{List, [], _∷_}
+use Prim.Native.Nat.{ℕ, zero, suc, _+_}
+use lib.Dec.{ltb}
+
+infix 25 _when_
+infixr 20 _then_
+-- the number where the test holds, else 0
+abbrev pub _when_ : ℕ → Bool → ℕ
+number when test = cond test number 0
+
+-- the first number if it is not 0, else the second
+abbrev pub _then_ : ℕ → ℕ → ℕ
+zero then later = later
+suc n then later = suc n
+
+-- whether one of the list passes the test
+abbrev pub any {ℓ} : {A : Type ℓ} → (A → Bool) → List A → Bool
+any p [] = false
+any p (x ∷ xs) = p x || any p xs
+
+-- the first of the numbers f 0, f 1, .., f (n - 1) that is not 0, else 0
+abbrev pub firstOf : (ℕ → ℕ) → ℕ → ℕ
+firstOf f zero = 0
+firstOf f (suc n) = firstOf f n then f n
+
+abbrev pub sum : List ℕ → ℕ
+sum [] = 0
+sum (x ∷ xs) = x + sum xs
+
+abbrev pub outside : ℕ → ℕ → ℕ → Bool
+outside low high x = ltb x low || ltb high x

@@ -1,0 +1,17 @@
+pub mod AccessLaws
+pub mod ByteLaws
+pub mod CallLaws
+pub mod CaseLaws
+pub mod Check
+pub mod CheckLaws
+pub mod DecodeLaws
+pub mod Encode
+pub mod EncodeLaws
+pub mod File
+pub mod GoodLaws
+pub mod PartLaws
+pub mod PrefixLaws
+pub mod RangeLaws
+pub mod ReadingLaws
+pub mod Settled
+pub mod Worked
