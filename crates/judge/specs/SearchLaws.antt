@@ -1,0 +1,169 @@
+-- What the results of the searches say, and how a loop comes by them.
+use mathlib.Core.Path.{_≡_, refl, sym, ap, _∙_}
+use mathlib.Core.Bool.{Bool, true, false, cond, _&&_}
+use Prim.Native.Nat.{ℕ, zero, suc, _+_, _-_, _≤_, _<_}
+use native.Mathlib.Numerals.{add-one}
+use native.Mathlib.Omega.{arith}
+use native.Mathlib.Decide.{ℕ-discrete}
+use borrow.Author.Tests.{lt-ltb, le-ltb, ltb-true, ltb-false}
+use lib.Dec.{ltb}
+use Rattle.judge.specs.Search.{first, any, count, lowest}
+use Rattle.judge.specs.BoolLaws.{contra, not-so}
+
+-- the first
+pub first-le : (p : ℕ → Bool) (i k : ℕ) → first p i k ≤ i + k
+first-le p i zero = omega arith
+first-le p i (suc k) = step (p i) (first-le p (suc i) k)
+  where
+    step : (t : Bool) → first p (suc i) k ≤ suc i + k → cond t i (first p (suc i) k) ≤ i + suc k
+    step true h = omega arith
+    step false h = omega arith
+
+pub first-is : (p : ℕ → Bool) (i k : ℕ) → first p i k < i + k → p (first p i k) ≡ true
+first-is p i zero h = absurd (omega arith)
+first-is p i (suc k) h = step (p i) refl h (first-is p (suc i) k)
+  where
+    step : (t : Bool) → p i ≡ t → cond t i (first p (suc i) k) < i + suc k → (first p (suc i) k < suc i + k → p (first p (suc i) k) ≡ true)
+        → p (cond t i (first p (suc i) k)) ≡ true
+    step true e h r = e
+    step false e h r = r (omega arith)
+
+pub first-hit : (p : ℕ → Bool) (i k j : ℕ) → i ≤ j → j < i + k → p j ≡ true → first p i k ≤ j
+first-hit p i zero j a b e = absurd (omega arith)
+first-hit p i (suc k) j a b e = step (p i) refl (ℕ-discrete i j) (first-hit p (suc i) k j)
+  where
+    step : (t : Bool) → p i ≡ t → Dec (i ≡ j) → (suc i ≤ j → j < suc i + k → p j ≡ true → first p (suc i) k ≤ j) → cond t i (first p (suc i) k) ≤ j
+    step true u d r = a
+    step false u (yes q) r = contra (p j) e (sym (ap p q) ∙ u)
+    step false u (no q) r = r (omega arith) (omega arith) e
+
+pub first-none : (p : ℕ → Bool) (i k : ℕ) → ((j : ℕ) → i ≤ j → j < i + k → p j ≡ false) → first p i k ≡ i + k
+first-none p i zero h = omega arith
+first-none p i (suc k) h = rw (h i (omega arith) (omega arith)) (omega (arith, first-none p (suc i) k (λ j a b. h j (omega arith) (omega arith))))
+
+pub first-cong : (p r : ℕ → Bool) (i k : ℕ) → ((j : ℕ) → i ≤ j → j < i + k → p j ≡ r j) → first p i k ≡ first r i k
+first-cong p r i zero h = refl
+first-cong p r i (suc k) h = rw (h i (omega arith) (omega arith), first-cong p r (suc i) k (λ j a b. h j (omega arith) (omega arith)))
+
+-- the lowest
+pub record Hit (p : ℕ → Bool) (key : ℕ → ℕ) (n x : ℕ) : Type 0 where
+  pub at : ℕ
+  pub below : at < n
+  pub passes : p at ≡ true
+  pub keyed : key at ≡ x
+
+pub lowest-is : (p : ℕ → Bool) (key : ℕ → ℕ) (n : ℕ) → lowest p key n < 65536 → Hit p key n (lowest p key n)
+lowest-is p key zero h = absurd (omega arith)
+lowest-is p key (suc n) h = step (p n) (ltb (key n) (lowest p key n)) refl h (lowest-is p key n)
+  where
+    step : (t u : Bool) → p n ≡ t → cond (t && u) (key n) (lowest p key n) < 65536 → (lowest p key n < 65536 → Hit p key n (lowest p key n))
+        → Hit p key (suc n) (cond (t && u) (key n) (lowest p key n))
+    step true true e h r = record { at = n; below = omega arith; passes = e; keyed = refl }
+    step true false e h r = let z = r h in record { at = z .at; below = omega arith; passes = z .passes; keyed = z .keyed }
+    step false u e h r = let z = r h in record { at = z .at; below = omega arith; passes = z .passes; keyed = z .keyed }
+
+pub lowest-le : (p : ℕ → Bool) (key : ℕ → ℕ) (n i : ℕ) → i < n → p i ≡ true → lowest p key n ≤ key i
+lowest-le p key zero i h e = absurd (omega arith)
+lowest-le p key (suc n) i h e = step (p n) (ltb (key n) (lowest p key n)) refl refl (ℕ-discrete i n) (lowest-le p key n i)
+  where
+    step : (t u : Bool) → p n ≡ t → ltb (key n) (lowest p key n) ≡ u → Dec (i ≡ n) → (i < n → p i ≡ true → lowest p key n ≤ key i)
+        → cond (t && u) (key n) (lowest p key n) ≤ key i
+    step true true a b (yes q) r = omega (arith, ap key q)
+    step true true a b (no q) r = omega (arith, r (omega arith) e, ltb-true (key n) (lowest p key n) b)
+    step true false a b (yes q) r = omega (arith, ap key q, ltb-false (key n) (lowest p key n) b)
+    step true false a b (no q) r = r (omega arith) e
+    step false u a b (yes q) r = contra (p i) e (ap p q ∙ a)
+    step false u a b (no q) r = r (omega arith) e
+
+-- a count that has one more
+pub count-mono : (p r : ℕ → Bool) (n : ℕ) → ((i : ℕ) → p i ≡ true → r i ≡ true) → count p n ≤ count r n
+count-mono p r zero h = omega arith
+count-mono p r (suc n) h = step (p n) (r n) refl refl (count-mono p r n h)
+  where
+    step : (t u : Bool) → p n ≡ t → r n ≡ u → count p n ≤ count r n → cond t (count p n + 1) (count p n) ≤ cond u (count r n + 1) (count r n)
+    step true true a b k = omega arith
+    step true false a b k = contra (r n) (h n a) b
+    step false true a b k = omega arith
+    step false false a b k = k
+
+pub count-more : (p r : ℕ → Bool) (n j : ℕ) → ((i : ℕ) → p i ≡ true → r i ≡ true) → j < n → p j ≡ false → r j ≡ true → count p n < count r n
+count-more p r zero j h k a b = absurd (omega arith)
+count-more p r (suc n) j h k a b = step (p n) (r n) refl refl (ℕ-discrete j n) (count-mono p r n h) (λ d. count-more p r n j h d a b)
+  where
+    step : (t u : Bool) → p n ≡ t → r n ≡ u → Dec (j ≡ n) → count p n ≤ count r n → (j < n → count p n < count r n)
+        → cond t (count p n + 1) (count p n) < cond u (count r n + 1) (count r n)
+    step true u x y (yes q) m i = contra (p j) (ap p q ∙ x) a
+    step false true x y (yes q) m i = omega arith
+    step false false x y (yes q) m i = contra (r j) b (ap r q ∙ y)
+    step true true x y (no q) m i = omega (arith, i (omega arith))
+    step true false x y (no q) m i = contra (r n) (h n x) y
+    step false true x y (no q) m i = omega (arith, i (omega arith))
+    step false false x y (no q) m i = i (omega arith)
+
+pub record Found (p : ℕ → Bool) (n : ℕ) : Type 0 where
+  pub at : ℕ
+  pub below : at < n
+  pub passes : p at ≡ true
+
+pub any-e : (p : ℕ → Bool) (n : ℕ) → any p n ≡ true → Found p n
+any-e p n h = let k = ltb-true (first p 0 n) n h in record { at = first p 0 n; below = k; passes = first-is p 0 n (omega arith) }
+
+pub any-i : (p : ℕ → Bool) (n k : ℕ) → k < n → p k ≡ true → any p n ≡ true
+any-i p n k u h = let z = first-hit p 0 n k (omega arith) (omega arith) h in lt-ltb (first p 0 n) n (omega arith)
+
+pub first-ge : (p : ℕ → Bool) (i k : ℕ) → i ≤ first p i k
+first-ge p i zero = omega arith
+first-ge p i (suc k) = step (p i) (first-ge p (suc i) k)
+  where
+    step : (t : Bool) → suc i ≤ first p (suc i) k → i ≤ cond t i (first p (suc i) k)
+    step true h = omega arith
+    step false h = omega arith
+
+-- nothing was found
+pub none-passes : (p : ℕ → Bool) (n : ℕ) → n ≤ first p 0 n → (j : ℕ) → j < n → p j ≡ false
+none-passes p n h j u = not-so (p j) (λ e. let k = first-hit p 0 n j (omega arith) (omega arith) e in omega arith)
+
+pub any-none : (p : ℕ → Bool) (n : ℕ) → any p n ≡ false → (j : ℕ) → j < n → p j ≡ false
+any-none p n h = none-passes p n (ltb-false (first p 0 n) n h)
+
+pub lowest-cong : (p r : ℕ → Bool) (key kex : ℕ → ℕ) (n : ℕ) → ((j : ℕ) → j < n → p j ≡ r j) → ((j : ℕ) → j < n → key j ≡ kex j) → lowest p key n ≡ lowest r kex n
+lowest-cong p r key kex zero h k = refl
+lowest-cong p r key kex (suc n) h k = rw (lowest-cong p r key kex n (λ j u. h j (omega arith)) (λ j u. k j (omega arith)), h n (omega arith), k n (omega arith))
+
+pub none : (p : ℕ → Bool) (n : ℕ) → ((j : ℕ) → j < n → p j ≡ false) → n ≤ first p 0 n
+none p n h = omega (arith, first-none p 0 n (λ j a b. h j (omega arith)))
+
+pub any-no : (p : ℕ → Bool) (n : ℕ) → ((j : ℕ) → j < n → p j ≡ false) → any p n ≡ false
+any-no p n h = le-ltb (first p 0 n) n (none p n h)
+
+-- the loop of `first`: what is left is the whole
+pub first-next : (p : ℕ → Bool) (i n : ℕ) → i < n → p i ≡ false → first p (i + 1) (n - (i + 1)) ≡ first p i (n - i)
+first-next p i n h e = let k : n - i ≡ suc (n - (i + 1)) = omega arith in rw (k, e, add-one)
+
+pub first-found : (p : ℕ → Bool) (i n : ℕ) → i < n → p i ≡ true → i ≡ first p i (n - i)
+first-found p i n h e = let k : n - i ≡ suc (n - (i + 1)) = omega arith in rw (k, e)
+
+pub first-end : (p : ℕ → Bool) (i n : ℕ) → n ≤ i → i ≡ first p i (n - i)
+first-end p i n h = let k : n - i ≡ 0 = omega arith in rw k
+
+-- the loops of `count` and `lowest`: what is done is the whole of a smaller one
+pub count-next : (p : ℕ → Bool) (i c d : ℕ) (t : Bool) → t ≡ p i → c ≡ count p i → d ≡ cond t (c + 1) c → d ≡ count p (i + 1)
+count-next p i c d t e₁ e₂ e₃ = rw (add-one, e₃, e₁, e₂)
+
+pub lowest-next : (p : ℕ → Bool) (key : ℕ → ℕ) (i low low′ k : ℕ) (t : Bool) → t ≡ p i → k ≡ key i → low ≡ lowest p key i
+    → low′ ≡ cond (t && ltb k low) k low → low′ ≡ lowest p key (i + 1)
+lowest-next p key i low low′ k t e₁ e₂ e₃ e₄ = rw (add-one, e₄, e₁, e₂, e₃)
+
+pub count-le : (p : ℕ → Bool) (n : ℕ) → count p n ≤ n
+count-le p zero = omega arith
+count-le p (suc n) = step (p n) (count-le p n)
+  where
+    step : (t : Bool) → count p n ≤ n → cond t (count p n + 1) (count p n) ≤ suc n
+    step true h = omega arith
+    step false h = omega arith
+
+pub first-start : (p : ℕ → Bool) (n : ℕ) → first p 0 (n - 0) ≡ first p 0 n
+first-start p n = let k : n - 0 ≡ n = omega arith in rw k
+
+pub at-end : (F : ℕ → ℕ) (i n x : ℕ) → i ≤ n → n ≤ i → x ≡ F i → x ≡ F n
+at-end F i n x h k e = let d : i ≡ n = omega arith in e ∙ ap F d

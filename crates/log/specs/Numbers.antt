@@ -1,0 +1,68 @@
+-- The log's numbers as document 01, "The log", gives them, each once, and which calls have a moment.
+use Prim.Native.Nat.{ℕ}
+use mathlib.Core.Bool.{Bool, true, false, cond, _&&_}
+use lib.Dec.{eqb}
+use Rattle.log.specs.declared.Entry.{Entry}
+use Rattle.log.specs.declared.What.{What}
+use Rattle.log.specs.declared.What.the-variants.{Pushed, Full, BottomNode, BottomNil, TopNode, TopNil}
+
+-- kinds
+abbrev pub push : ℕ
+push = 1
+
+abbrev pub bottomPop : ℕ
+bottomPop = 2
+
+abbrev pub topPop : ℕ
+topPop = 3
+
+-- results
+abbrev pub nil : ℕ
+nil = 0
+
+-- done, or a node
+abbrev pub done : ℕ
+done = 1
+
+abbrev pub full : ℕ
+full = 2
+
+-- stands where there is no moment
+abbrev pub noMoment : ℕ
+noMoment = 65535
+
+abbrev pub kindOf : What → ℕ
+kindOf Pushed = push
+kindOf Full = push
+kindOf BottomNode = bottomPop
+kindOf BottomNil = bottomPop
+kindOf TopNode = topPop
+kindOf TopNil = topPop
+
+abbrev pub resultOf : What → ℕ
+resultOf Pushed = done
+resultOf Full = full
+resultOf BottomNode = done
+resultOf BottomNil = nil
+resultOf TopNode = done
+resultOf TopNil = nil
+
+abbrev pub bearsMoment : What → Bool
+bearsMoment Pushed = true
+bearsMoment Full = false
+bearsMoment BottomNode = true
+bearsMoment BottomNil = true
+bearsMoment TopNode = true
+bearsMoment TopNil = false
+
+-- what a kind and a result say happened; rule 1 refuses all pairs but the six of `kindOf` and `resultOf`
+abbrev pub whatOf : ℕ → ℕ → What
+whatOf kind result =
+    cond (eqb kind push) (cond (eqb result done) Pushed Full)
+    (cond (eqb kind bottomPop) (cond (eqb result done) BottomNode BottomNil) (cond (eqb result done) TopNode TopNil))
+
+abbrev pub what : Entry → What
+what e = whatOf (e .kind) (e .result)
+
+abbrev pub same : What → What → Bool
+same a b = eqb (kindOf a) (kindOf b) && eqb (resultOf a) (resultOf b)
