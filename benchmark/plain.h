@@ -1,0 +1,10 @@
+/* The bench as a plain C program would have it, for the comparison of speed: same job, same reply. */
+#ifndef PLAIN_H
+#define PLAIN_H
+
+#include <stddef.h>
+#include <stdint.h>
+
+size_t plain_run(const uint8_t *file, size_t file_len, uint8_t *log, size_t log_len, uint16_t report[4], uint16_t table[536]);
+
+#endif

@@ -1,0 +1,48 @@
+-- How a state lies in the program's arrays: all slots in one row of 64 for each of eight queues, and the log as its bytes.
+use Prim.Native.Nat.{ℕ, zero, suc, _+_, _*_, _≤_}
+use mathlib.Core.Path.{_≡_}
+use mathlib.Core.List.{List, [], _∷_}
+use lib.ListN.{length, getD, take, drop, set}
+use Rattle.log.specs.Encode.{listOf, entryBytes, putAt}
+use Rattle.log.specs.declared.Entry.{Entry}
+use Rattle.queue.specs.Step.{stored, steppedOn}
+use Rattle.queue.specs.declared.Stage.{Stage}
+use Rattle.queue.specs.declared.Stepped.{Stepped}
+use Rattle.queue.specs.declared.Word.{Word}
+use Rattle.bench.specs.State.{State, queueAt, processAt}
+use Rattle.bench.specs.declared.Bench.{Bench}
+
+abbrev pub slotsOf : ℕ → List ℕ → ℕ → List ℕ
+slotsOf C flat q = take C (drop (64 * q) flat)
+
+abbrev pub slotsIn : ℕ → List ℕ → List (List ℕ)
+slotsIn C flat = listOf 8 (slotsOf C flat)
+
+-- the state that a bench and its slots stand for, before anything is logged
+abbrev pub stateIn : ℕ → Bench → List ℕ → State
+stateIn C b flat = record { bench = b; slots = slotsIn C flat; log = [] }
+
+-- the step of queue q on its slots in the row
+pub record StepsIn (W C : ℕ) (w : Word) (flat : List ℕ) (q : ℕ) (z : Stage) (answer : Stepped) (flat′ : List ℕ) : Type 0 where
+  pub stepped : answer ≡ steppedOn W C w (getD (slotsIn C flat) q []) z
+  pub slots : slotsIn C flat′ ≡ set (slotsIn C flat) q (stored (getD (slotsIn C flat) q []) (steppedOn W C w (getD (slotsIn C flat) q []) z .store))
+
+-- the bytes of a log with entries put in from entry n on
+abbrev pub putEntries : ℕ → List Entry → List ℕ → List ℕ
+putEntries n [] log = log
+putEntries n (e ∷ es) log = putEntries (suc n) es (putAt (5 + 12 * n) (entryBytes e) log)
+
+-- bench, slots and log have become those of a state s, from a bench with n entries and the bytes of its log
+pub record Becomes (C n : ℕ) (log : List ℕ) (s : State) (b′ : Bench) (flat′ log′ : List ℕ) : Type 0 where
+  pub bench : b′ ≡ s .bench
+  pub slots : slotsIn C flat′ ≡ s .slots
+  pub bytes : log′ ≡ putEntries n (s .log) log
+
+-- there are eight queues and processes; the counts are at most the number of steps, and so is each B2
+pub record Counted (b : Bench) : Type 0 where
+  pub queues : length (b .queues) ≡ 8
+  pub processes : length (b .processes) ≡ 8
+  pub entries : b .entries ≤ b .steps
+  pub gone : b .gone ≤ b .steps
+  pub resets : (q : ℕ) → queueAt b q .resets ≤ b .steps
+  pub back : (p : ℕ) → processAt b p .back ≤ b .steps

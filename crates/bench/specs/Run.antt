@@ -1,0 +1,93 @@
+-- A whole run, from the bytes of its file and the length of the log buffer to everything that it gives.
+use Prim.Native.Nat.{ℕ, zero, suc, _+_, _*_, _/_, _%_}
+use mathlib.Core.Bool.{Bool, true, false, cond}
+use mathlib.Core.List.{List, [], _∷_, _++_}
+use lib.Dec.{ltb}
+use lib.ListN.{length, getD, replicate}
+use Rattle.log.specs.Encode.{logBytes, listOf}
+use Rattle.queue.specs.Stages.{isIdle}
+use Rattle.queue.specs.declared.Word.{Word}
+use Rattle.runfile.specs.File.{RunFile, Answer, refused, good, fileOf}
+use Rattle.runfile.specs.declared.Call.{Call}
+use Rattle.bench.specs.State.{State, start, queueAt, processAt}
+use Rattle.bench.specs.Turn.{act, turn}
+use Rattle.bench.specs.declared.Bench.{Bench}
+use Rattle.bench.specs.declared.Process.{Process}
+
+-- the schedule, step by step
+unfoldable pub play : ℕ → ℕ → List Call → List ℕ → State → State
+unfolding turn
+play W C calls [] s = s
+play W C calls (p ∷ ps) s = play W C calls ps (turn W C calls p s)
+
+-- the lowest half-done process; 8 where there is none
+abbrev pub lowest : List Process → ℕ
+lowest [] = 0
+lowest (r ∷ rs) = cond (isIdle (r .stage)) (suc (lowest rs)) 0
+
+-- the closing: the lowest half-done process makes its next step, until there is none; no new call is begun
+unfoldable pub close : ℕ → ℕ → ℕ → State → State
+unfolding act
+close W C zero s = s
+close W C (suc k) s =
+    let p : ℕ = lowest (s .bench .processes) in
+    cond (ltb p 8) (close W C k (act W C p (processAt (s .bench) p) s)) s
+
+-- eight calls are half-done at most, and a half-done call has at most six steps left
+abbrev pub closingSteps : ℕ
+closingSteps = 48
+
+unfoldable pub closed : RunFile → State
+unfolding play close
+closed f = close (f .width) (f .size) closingSteps (play (f .width) (f .size) (f .calls) (f .schedule) (start f))
+
+-- the final table has 67 numbers for each of eight queues, bottom, top, tag and 64 slots; 0 stands at and above C, and for queues at
+-- or above P
+abbrev pub tableRow : Word → List ℕ → List ℕ
+tableRow w slots = w .bottom ∷ w .top ∷ w .tag ∷ slots
+
+abbrev pub tableAt : ℕ → Bench → List (List ℕ) → ℕ → ℕ
+tableAt P b slots k = cond (ltb (k / 67) P) (getD (tableRow (queueAt b (k / 67) .word) (getD slots (k / 67) [])) (k % 67) 0) 0
+
+abbrev pub tableSize : ℕ
+tableSize = 536
+
+-- all that a run gives: the number, the log's bytes, the counts and the table
+pub record Outcome : Type 0 where
+  pub number : ℕ
+  pub log : List ℕ
+  pub entries : ℕ
+  pub steps : ℕ
+  pub gone : ℕ
+  pub table : List ℕ
+
+-- refusals give zero counts, a zero table and an empty part
+abbrev pub refusal : ℕ → Outcome
+refusal n = record { number = n; log = []; entries = 0; steps = 0; gone = 0; table = replicate tableSize 0 }
+
+abbrev pub finished : RunFile → State → Outcome
+finished f s = record {
+  number = 0;
+  log = logBytes (record { P = length (f .shares); C = f .size; entries = s .log });
+  entries = length (s .log);
+  steps = s .bench .steps;
+  gone = s .bench .gone;
+  table = listOf tableSize (tableAt (length (f .shares)) (s .bench) (s .slots));
+}
+
+-- the log buffer has room for all calls of the file, or the run is refused with 8
+abbrev pub roomFor : RunFile → ℕ
+roomFor f = 5 + 12 * length (f .calls)
+
+-- 9 during the run: a step that is out of range
+abbrev pub ranAs : RunFile → State → Outcome
+ranAs f s = cond (s .bench .refused) (refusal 9) (finished f s)
+
+unfoldable pub outcome : ℕ → Answer → Outcome
+unfolding closed
+outcome room (refused n) = refusal n
+outcome room (good f) = cond (ltb room (roomFor f)) (refusal 8) (ranAs f (closed f))
+
+unfoldable pub runOf : List ℕ → ℕ → Outcome
+unfolding outcome fileOf
+runOf file room = outcome room (fileOf file)

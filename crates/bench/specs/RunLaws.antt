@@ -1,0 +1,231 @@
+-- Laws of a whole run, as its loops take them: a state after so many steps, its log, and the closing by steps.
+use Prim.Native.Nat.{ℕ, zero, suc, _+_, _-_, _*_, _≤_, _<_}
+use mathlib.Core.Path.{_≡_, refl, sym, ap, _∙_, subst}
+use mathlib.Core.Bool.{Bool, true, false, cond, _&&_}
+use mathlib.Core.List.{List, [], _∷_, _++_, append-assoc, append-nil}
+use native.Mathlib.Numerals.{add-one}
+use native.Mathlib.Omega.{arith}
+use borrow.Author.Tests.{leb-true, lt-ltb, le-ltb}
+use lib.Dec.{ltb, leb}
+use lib.ListN.{length, getD, take, drop, length-append, length-drop}
+use lib.Seq.{take-suc, take-all, length-take-le}
+use Rattle.log.specs.Encode.{entryBytes, putAt}
+use Rattle.log.specs.declared.Entry.{Entry}
+use Rattle.queue.specs.Stages.{isIdle}
+use Rattle.runfile.specs.declared.Call.{Call}
+use Rattle.bench.specs.Layout.{slotsIn, stateIn, putEntries, Becomes, Counted}
+use Rattle.bench.specs.LayoutLaws.{put-append}
+use Rattle.bench.specs.Run.{play, lowest, close}
+use Rattle.bench.specs.State.{State, processAt}
+use Rattle.bench.specs.Turn.{entriesIn, ready, stepping, ending, act, idle, turnAs, turn}
+use Rattle.bench.specs.TurnLaws.{either-way, count-is, counted-act, counted-turn}
+use Rattle.bench.specs.declared.Bench.{Bench}
+use Rattle.bench.specs.declared.Process.{Process}
+
+-- the state with nothing in its log yet, and a state with what comes later
+abbrev pub bare : State → State
+bare s = record { bench = s .bench; slots = s .slots; log = [] }
+
+abbrev pub later : State → State → State
+later s x = record { bench = x .bench; slots = x .slots; log = s .log ++ x .log }
+
+-- a step does not look at the log: it adds to it
+pub act-later : (W C p : ℕ) (r : Process) (s : State) → act W C p r s ≡ later s (act W C p r (bare s))
+unfolding act
+act-later W C p r s = refl
+
+pub turn-later : (W C : ℕ) (calls : List Call) (p : ℕ) (s : State) → turn W C calls p s ≡ later s (turn W C calls p (bare s))
+unfolding turn turnAs act
+turn-later W C calls p s = by-test (isIdle (r .stage)) refl
+  where
+    r : Process
+    r = ready calls (s .bench .steps) (processAt (s .bench) p)
+
+    by-test : (t : Bool) → isIdle (ready calls (s .bench .steps) (processAt (s .bench) p) .stage) ≡ t
+        → cond (isIdle (ready calls (s .bench .steps) (processAt (s .bench) p) .stage)) (idle s) (act W C p (ready calls (s .bench .steps) (processAt (s .bench) p)) s)
+        ≡ later s (cond (isIdle (ready calls (s .bench .steps) (processAt (s .bench) p) .stage)) (idle (bare s)) (act W C p (ready calls (s .bench .steps) (processAt (s .bench) p)) (bare s)))
+    by-test true e = rw e (λ i. record { bench = idle s .bench; slots = s .slots; log = sym (append-nil (s .log)) i })
+    by-test false e = rw e refl
+
+-- the bench counts the entries of the log, after the n that were there before
+abbrev pub Logged : ℕ → State → Type 0
+Logged n s = s .bench .entries ≡ n + length (s .log)
+
+pub act-logged : (n W C p : ℕ) (r : Process) (s : State) → Logged n s → Logged n (act W C p r s)
+unfolding act
+act-logged n W C p r s h =
+    let over = ending p r (s .bench) (stepping W C p r s .next) in
+    omega (arith, count-is over, length-append (s .log) (entriesIn over))
+
+pub turn-logged : (n W C : ℕ) (calls : List Call) (p : ℕ) (s : State) → Logged n s → Logged n (turn W C calls p s)
+unfolding turn turnAs
+turn-logged n W C calls p s h =
+    let r = ready calls (s .bench .steps) (processAt (s .bench) p) in
+    either-way (Logged n) (isIdle (r .stage)) (λ e. h) (λ e. act-logged n W C p r s h)
+
+-- a step of the program carries on what the program stands for
+pub becomes-next : (C n : ℕ) (F : State → State) → ((s : State) → F s ≡ later s (F (bare s))) → (s : State) (log₀ : List ℕ) (b : Bench) (flat log : List ℕ)
+    → Logged n s → Becomes C n log₀ s b flat log → (b′ : Bench) (flat′ log′ : List ℕ) → Becomes C (b .entries) log (F (stateIn C b flat)) b′ flat′ log′
+    → Becomes C n log₀ (F s) b′ flat′ log′
+becomes-next C n F adds s log₀ b flat log k h b′ flat′ log′ g =
+    let e : F (stateIn C b flat) ≡ F (bare s) = ap F (λ i. record { bench = h .bench i; slots = h .slots i; log = [] }) in
+    let m : b .entries ≡ n + length (s .log) = ap (λ (x : Bench). x .entries) (h .bench) ∙ k in
+    record {
+      bench = g .bench ∙ ap (λ (x : State). x .bench) e ∙ sym (ap (λ (x : State). x .bench) (adds s));
+      slots = g .slots ∙ ap (λ (x : State). x .slots) e ∙ sym (ap (λ (x : State). x .slots) (adds s));
+      bytes = g .bytes
+          ∙ ap (λ (x : State). putEntries (b .entries) (x .log) log) e
+          ∙ ap (λ (i : ℕ). putEntries i (F (bare s) .log) log) m
+          ∙ ap (λ (l : List ℕ). putEntries (n + length (s .log)) (F (bare s) .log) l) (h .bytes)
+          ∙ sym (put-append n (s .log) (F (bare s) .log) log₀)
+          ∙ sym (ap (λ (x : State). putEntries n (x .log) log₀) (adds s));
+    }
+
+-- the schedule, one step more
+play-append : (W C : ℕ) (calls : List Call) (ps qs : List ℕ) (s : State) → play W C calls (ps ++ qs) s ≡ play W C calls qs (play W C calls ps s)
+unfolding play
+play-append W C calls [] qs s = refl
+play-append W C calls (p ∷ ps) qs s = play-append W C calls ps qs (turn W C calls p s)
+
+pub play-next : (W C : ℕ) (calls : List Call) (ps : List ℕ) (i : ℕ) (s : State) → i < length ps
+    → play W C calls (take (i + 1) ps) s ≡ turn W C calls (getD ps i 0) (play W C calls (take i ps) s)
+unfolding play
+play-next W C calls ps i s h = rw (add-one i, take-suc ps i 0 h) (play-append W C calls (take i ps) (getD ps i 0 ∷ []) s)
+
+-- the closing, one step more: once it is closed nothing changes
+abbrev pub closeStep : ℕ → ℕ → State → State
+closeStep W C s =
+    let p : ℕ = lowest (s .bench .processes) in
+    cond (ltb p 8) (act W C p (processAt (s .bench) p) s) s
+
+close-done : (W C k : ℕ) (s : State) → ltb (lowest (s .bench .processes)) 8 ≡ false → close W C k s ≡ s
+unfolding close
+close-done W C zero s e = refl
+close-done W C (suc k) s e = rw e
+
+close-step : (W C k : ℕ) (s : State) → close W C (suc k) s ≡ close W C k (closeStep W C s)
+unfolding close
+close-step W C k s = by-test (ltb (lowest (s .bench .processes)) 8) refl
+  where
+    by-test : (t : Bool) → ltb (lowest (s .bench .processes)) 8 ≡ t → close W C (suc k) s ≡ close W C k (closeStep W C s)
+    by-test true e = rw e
+    by-test false e = rw e (sym (close-done W C k s e))
+
+pub close-next : (W C k : ℕ) (s : State) → close W C (suc k) s ≡ closeStep W C (close W C k s)
+unfolding close
+close-next W C zero s = close-step W C 0 s
+close-next W C (suc k) s = close-step W C (suc k) s ∙ close-next W C k (closeStep W C s) ∙ ap (closeStep W C) (sym (close-step W C k s))
+
+-- an early end of the closing is its end
+pub close-early : (W C i k : ℕ) (s : State) → ltb (lowest (close W C i s .bench .processes)) 8 ≡ false → close W C (i + k) s ≡ close W C i s
+unfolding close
+close-early W C zero k s e = let n : 0 + k ≡ k = omega arith in rw n (close-done W C k s e)
+close-early W C (suc i) k s e =
+    let n : suc i + k ≡ suc (i + k) = omega arith in
+    rw n (close-step W C (i + k) s ∙ close-early W C i k (closeStep W C s) (ap (λ (x : State). ltb (lowest (x .bench .processes)) 8) (sym (close-step W C i s)) ∙ e) ∙ sym (close-step W C i s))
+
+-- what the program's loops keep: they stand for a state s, and every count fits
+pub record Along (C n : ℕ) (log₀ : List ℕ) (s : State) (b : Bench) (flat log : List ℕ) : Type 0 where
+  pub becomes : Becomes C n log₀ s b flat log
+  pub logged : Logged n s
+  pub counted : Counted b
+
+pub put-same-length : (at : ℕ) (bytes buffer : List ℕ) → length (putAt at bytes buffer) ≡ length buffer
+put-same-length at bytes buffer =
+    either-way (λ (l : List ℕ). length l ≡ length buffer) (leb (at + length bytes) (length buffer))
+    (λ e. let k = leb-true (at + length bytes) (length buffer) e in
+    omega (arith, length-append (take at buffer ++ bytes) (drop (at + length bytes) buffer), length-append (take at buffer) bytes, length-take-le at buffer (omega arith), length-drop (at + length bytes) buffer))
+    (λ e. refl)
+
+put-length : (n : ℕ) (es : List Entry) (log : List ℕ) → length (putEntries n es log) ≡ length log
+put-length n [] log = refl
+put-length n (e ∷ es) log = put-length (suc n) es (putAt (5 + 12 * n) (entryBytes e) log) ∙ put-same-length (5 + 12 * n) (entryBytes e) log
+
+pub along-length : (C n : ℕ) (log₀ : List ℕ) (s : State) (b : Bench) (flat log : List ℕ) → Along C n log₀ s b flat log → length log ≡ length log₀
+along-length C n log₀ s b flat log h = ap length (h .becomes .bytes) ∙ put-length n (s .log) log₀
+
+-- nothing is done yet
+pub along-start : (C : ℕ) (b : Bench) (flat log : List ℕ) → Counted b → Along C (b .entries) log (stateIn C b flat) b flat log
+along-start C b flat log h = record { becomes = record { bench = refl; slots = refl; bytes = refl }; logged = omega arith; counted = h }
+
+module _ (W C n : ℕ) (log₀ : List ℕ) (s : State) (b : Bench) (flat log : List ℕ) (h : Along C n log₀ s b flat log) (b′ : Bench) (flat′ log′ : List ℕ) where
+  pub along-turn : (calls : List Call) (p : ℕ) → Becomes C (b .entries) log (turn W C calls p (stateIn C b flat)) b′ flat′ log′ → Along C n log₀ (turn W C calls p s) b′ flat′ log′
+  along-turn calls p g = record {
+    becomes = becomes-next C n (turn W C calls p) (turn-later W C calls p) s log₀ b flat log (h .logged) (h .becomes) b′ flat′ log′ g;
+    logged = turn-logged n W C calls p s (h .logged);
+    counted = subst Counted (sym (g .bench)) (counted-turn W C calls p (stateIn C b flat) (h .counted));
+  }
+
+  pub along-act : (p : ℕ) (r : Process) → r .back ≤ b .steps → Becomes C (b .entries) log (act W C p r (stateIn C b flat)) b′ flat′ log′ → Along C n log₀ (act W C p r s) b′ flat′ log′
+  along-act p r k g = record {
+    becomes = becomes-next C n (act W C p r) (act-later W C p r) s log₀ b flat log (h .logged) (h .becomes) b′ flat′ log′ g;
+    logged = act-logged n W C p r s (h .logged);
+    counted = subst Counted (sym (g .bench)) (counted-act W C p r (stateIn C b flat) (h .counted) k);
+  }
+
+pub turn-steps : (W C : ℕ) (calls : List Call) (p : ℕ) (s : State) → turn W C calls p s .bench .steps ≡ s .bench .steps + 1
+unfolding turn turnAs act
+turn-steps W C calls p s = either-way (λ (x : State). x .bench .steps ≡ s .bench .steps + 1) (isIdle (ready calls (s .bench .steps) (processAt (s .bench) p) .stage)) (λ e. refl) (λ e. refl)
+
+-- the loop over the schedule, i steps on
+abbrev pub Played : ℕ → ℕ → ℕ → List Call → List ℕ → List ℕ → State → ℕ → Bench → List ℕ → List ℕ → Type 0
+Played W C n calls ps log₀ s₀ i b flat log = Along C n log₀ (play W C calls (take i ps) s₀) b flat log × (b .steps ≡ i)
+
+module _ (W C n : ℕ) (calls : List Call) (ps : List ℕ) (log₀ : List ℕ) (s₀ : State) (i : ℕ) (b : Bench) (flat log : List ℕ) where
+  pub played-next : (p : ℕ) (b′ : Bench) (flat′ log′ : List ℕ) → Played W C n calls ps log₀ s₀ i b flat log → i < length ps → p ≡ getD ps i 0
+      → Becomes C (b .entries) log (turn W C calls p (stateIn C b flat)) b′ flat′ log′ → Played W C n calls ps log₀ s₀ (i + 1) b′ flat′ log′
+  played-next p b′ flat′ log′ h l e g = (
+    subst (λ (x : State). Along C n log₀ x b′ flat′ log′) (ap (λ (q : ℕ). turn W C calls q (play W C calls (take i ps) s₀)) e ∙ sym (play-next W C calls ps i s₀ l))
+        (along-turn W C n log₀ (play W C calls (take i ps) s₀) b flat log (h .0) b′ flat′ log′ calls p g),
+    omega (arith, turn-steps W C calls p (stateIn C b flat), ap (λ (x : Bench). x .steps) (g .bench)),
+  )
+
+  pub played-all : Played W C n calls ps log₀ s₀ i b flat log → length ps ≤ i → Becomes C n log₀ (play W C calls ps s₀) b flat log
+  played-all h l = subst (λ (qs : List ℕ). Becomes C n log₀ (play W C calls qs s₀) b flat log) (take-all i ps l) (h .0 .becomes)
+
+pub played-start : (W C : ℕ) (calls : List Call) (ps : List ℕ) (b : Bench) (flat log : List ℕ) → Counted b → b .steps ≡ 0
+    → Played W C (b .entries) calls ps log (stateIn C b flat) 0 b flat log
+unfolding play
+played-start W C calls ps b flat log h e = (along-start C b flat log h, e)
+
+-- the loop of the closing, i steps on
+abbrev pub Closing : ℕ → ℕ → ℕ → List ℕ → State → ℕ → Bench → List ℕ → List ℕ → Type 0
+Closing W C n log₀ s₀ i b flat log = Along C n log₀ (close W C i s₀) b flat log × (b .steps ≤ 4096 + i)
+
+pub closing-start : (W C : ℕ) (b : Bench) (flat log : List ℕ) → Counted b → b .steps ≤ 4096 → Closing W C (b .entries) log (stateIn C b flat) 0 b flat log
+unfolding close
+closing-start W C b flat log h k = (along-start C b flat log h, omega arith)
+
+act-steps : (W C p : ℕ) (r : Process) (s : State) → act W C p r s .bench .steps ≡ s .bench .steps + 1
+unfolding act
+act-steps W C p r s = refl
+
+module _ (W C n : ℕ) (log₀ : List ℕ) (s₀ : State) (i : ℕ) (b : Bench) (flat log : List ℕ) (h : Closing W C n log₀ s₀ i b flat log) where
+  same : b ≡ close W C i s₀ .bench
+  same = h .0 .becomes .bench
+
+  pub closing-next : (p : ℕ) (r : Process) (b′ : Bench) (flat′ log′ : List ℕ) → p ≡ lowest (b .processes) → p < 8 → r ≡ processAt b p
+      → Becomes C (b .entries) log (act W C p r (stateIn C b flat)) b′ flat′ log′ → Closing W C n log₀ s₀ (i + 1) b′ flat′ log′
+  closing-next p r b′ flat′ log′ e l d g = (
+    subst (λ (x : State). Along C n log₀ x b′ flat′ log′) (sym step) (along-act W C n log₀ (close W C i s₀) b flat log (h .0) b′ flat′ log′ p r (omega (arith, h .0 .counted .back p, ap (λ (x : Process). x .back) d)) g),
+    omega (arith, act-steps W C p r (stateIn C b flat), ap (λ (x : Bench). x .steps) (g .bench)),
+  )
+    where
+      at : p ≡ lowest (close W C i s₀ .bench .processes)
+      at = e ∙ ap (λ (x : Bench). lowest (x .processes)) same
+
+      step : close W C (i + 1) s₀ ≡ act W C p r (close W C i s₀)
+      step =
+          ap (λ (k : ℕ). close W C k s₀) (add-one i) ∙ close-next W C i s₀
+          ∙ ap (λ (q : ℕ). cond (ltb q 8) (act W C q (processAt (close W C i s₀ .bench) q) (close W C i s₀)) (close W C i s₀)) (sym at)
+          ∙ ap (λ (t : Bool). cond t (act W C p (processAt (close W C i s₀ .bench) p) (close W C i s₀)) (close W C i s₀)) (lt-ltb p 8 l)
+          ∙ ap (λ (x : Process). act W C p x (close W C i s₀)) (sym (d ∙ ap (λ (x : Bench). processAt x p) same))
+
+  pub closing-early : lowest (b .processes) ≡ 8 → (k : ℕ) → i ≤ k → Becomes C n log₀ (close W C k s₀) b flat log
+  closing-early e k l =
+      let m : i + (k - i) ≡ k = omega arith in
+      let z : ltb (lowest (close W C i s₀ .bench .processes)) 8 ≡ false = le-ltb (lowest (close W C i s₀ .bench .processes)) 8 (omega (arith, ap (λ (x : Bench). lowest (x .processes)) same)) in
+      subst (λ (x : State). Becomes C n log₀ x b flat log) (sym (close-early W C i (k - i) s₀ z) ∙ ap (λ (j : ℕ). close W C j s₀) m) (h .0 .becomes)
+
+  pub closing-all : (k : ℕ) → i ≤ k → k ≤ i → Becomes C n log₀ (close W C k s₀) b flat log
+  closing-all k l m = let e : i ≡ k = omega arith in subst (λ (j : ℕ). Becomes C n log₀ (close W C j s₀) b flat log) e (h .0 .becomes)

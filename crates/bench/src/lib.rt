@@ -1,0 +1,155 @@
+// The bench: runs a file of scripts under its schedule, one shared access at a time.
+ghost use mathlib.Core.Path.{_≡_};
+ghost use mathlib.Core.List.{[], _∷_};
+ghost use lib.ListN.{length, replicate};
+ghost use denote.Ref.{ptr};
+ghost use Rattle.runfile.specs.File.{fileOf, readingOf};
+ghost use Rattle.bench.specs.Promise.{Ends, Finishes, Ran, HandsBack};
+ghost use Rattle.bench.specs.Run.{tableSize};
+
+mod moment; // what a step ends, and its moment
+mod start; // eight fresh queues, and each process with its share of the calls
+mod loops; // the schedule and the closing
+mod table; // the final table
+mod turn; // one step of a run
+
+use log::Entry;
+use queue::Stage;
+use queue::Word;
+use runfile::Call;
+use runfile::Reading;
+use runfile::Shape;
+
+// A queue of the bench: its control word, and how often it was reset.
+pub struct Queue {
+    pub word: Word,
+    pub resets: u16,
+}
+
+// A process: where it stands in its call, the call, which call of the file is its next and where its script stops; and of the
+// call its start, its step B2, and the resets that its queue had at T1.
+pub struct Process {
+    pub stage: Stage,
+    pub call: Call,
+    pub next: u16,
+    pub stop: u16,
+    pub start: u16,
+    pub back: u16,
+    pub seen: u16,
+}
+
+// The state of a run, but for the slots and the log, which lie in arrays of their own. `refused`: a step was out of range.
+pub struct Bench {
+    pub queues: [Queue; 8],
+    pub processes: [Process; 8],
+    pub entries: u16,
+    pub steps: u16,
+    pub gone: u16,
+    pub refused: bool,
+}
+
+// What a step gives the log: nothing, or the entry of the call that it ended.
+pub enum Ended {
+    Nothing,
+    Call(Entry),
+}
+
+// A refusal gives its number, zero counts, a zero table and an empty part.
+fn refuse(number: u8, report: &mut [u16; 4], table: &mut [u16; 536]) -> usize
+    ensures { λ r. ⌜ (r ≡ 0) × (now (report .exit) ≡ number ∷ 0 ∷ 0 ∷ 0 ∷ []) × (now (table .exit) ≡ replicate tableSize 0) ⌝ }
+{
+    *report = [number as u16, 0, 0, 0];
+    *table = [0; 536];
+    0
+}
+
+// Writes the log into the front of the buffer, the counts and the table.
+fn finish(
+    shape: Shape,
+    state: Bench,
+    slots: &[u16],
+    log: &mut [u8],
+    buffer: &mut [u8],
+    report: &mut [u16; 4],
+    table: &mut [u16; 536],
+) -> usize
+    requires { ⌜ Ends shape state (now slots) (now log) (now buffer) ⌝ }
+    ensures { λ r. ⌜ Finishes (shape .processes) (shape .size) state (now (slots .entry)) (now (log .entry)) (now (buffer .entry)) r (now (buffer .exit)) (now (report .exit)) (now (table .exit)) ⌝ }
+{
+    log::put_head(log, shape.processes, shape.size, state.entries);
+    let written = 5 + 12 * (state.entries as usize);
+    bytes::copy(&log[..written], buffer);
+    *report = [0, state.entries, state.steps, state.gone];
+    table::fill(table, shape.processes, shape.size, state, slots);
+    written
+}
+
+// The run of a good file.
+fn run_good(
+    file: &[u8],
+    shape: Shape,
+    buffer: &mut [u8],
+    report: &mut [u16; 4],
+    table: &mut [u16; 536],
+) -> usize
+    requires { ⌜ readingOf (fileOf (now file)) ≡ Reading.Good shape ⌝ }
+    ensures { λ r. ⌜ Ran (now (file .entry)) (now (buffer .entry)) r (now (buffer .exit)) (now (report .exit)) (now (table .exit)) ⌝ }
+{
+    let room = 5 + 12 * (shape.calls as usize);
+    if buffer.len() < room {
+        return refuse(8, report, table);
+    }
+    let mut slots = [0u16; 512];
+    let mut log = [0u8; 3077];
+    let started = start::start(file, shape.processes);
+    let played = loops::play(file, shape, started, &mut slots, &mut log);
+    let closed = loops::close(shape.width, shape.size, played, &mut slots, &mut log);
+    if closed.refused {
+        return refuse(9, report, table);
+    }
+    finish(shape, closed, &slots, &mut log, buffer, report, table)
+}
+
+// Runs a file. Gives the number of bytes of the log that it wrote at the front of the buffer, and lends back number, entries, steps and
+// gone-round takes, and the final table. This is the function that promises every byte of the buffer.
+pub fn run_len(
+    file: &[u8],
+    buffer: &mut [u8],
+    report: &mut [u16; 4],
+    table: &mut [u16; 536],
+) -> usize
+    ensures { λ r. ⌜ Ran (now (file .entry)) (now (buffer .entry)) r (now (buffer .exit)) (now (report .exit)) (now (table .exit)) ⌝ }
+{
+    let reading = runfile::read(file);
+    match reading {
+        Reading::Refused(number) => refuse(number, report, table),
+        Reading::Good(shape) => run_good(file, shape, buffer, report, table),
+    }
+}
+
+// The same, and hands back the written front part of the buffer itself.
+pub fn run<'a>(
+    file: &[u8],
+    buffer: &'a mut [u8],
+    report: &mut [u16; 4],
+    table: &mut [u16; 536],
+) -> &'a mut [u8]
+    ensures { λ r. ⌜ HandsBack (now (file .entry)) (length (now (buffer .entry))) (now r) (now (report .exit)) (now (table .exit)) ⌝ }
+    ensures { λ r. ⌜ r .ptr ≡ buffer .entry .ptr ⌝ }
+{
+    let written = run_len(file, buffer, report, table);
+    &mut buffer[..written]
+}
+
+// run_len, for a host in C.
+#[no_mangle]
+pub extern "C" fn scarpgoblet_run(
+    file: &[u8],
+    log: &mut [u8],
+    report: &mut [u16; 4],
+    table: &mut [u16; 536],
+) -> usize
+    ensures { λ r. ⌜ Ran (now (file .entry)) (now (log .entry)) r (now (log .exit)) (now (report .exit)) (now (table .exit)) ⌝ }
+{
+    run_len(file, log, report, table)
+}

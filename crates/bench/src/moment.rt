@@ -1,0 +1,151 @@
+// The entry of a finished call, with its moment: document 01, "The log".
+ghost use mathlib.Core.Path.{_≡_};
+ghost use Prim.Native.Nat.{_≤_};
+ghost use Rattle.bench.specs.Moment.{queueOf, pushedNode, isTake, entry as entryOf, nilMoment, takeMoment, nodeEntry, nilEntry, ended as endedOf, goneRound};
+use crate::Ended;
+use crate::Process;
+use log::Entry;
+use log::What;
+use queue::Next;
+use runfile::Call;
+
+// The queue of a call of process p.
+pub(crate) fn queue_of(p: u8, call: Call) -> u8
+    ensures { λ r. ⌜ r ≡ queueOf p call ⌝ }
+{
+    match call {
+        Call::Push(_) => p,
+        Call::Pop => p,
+        Call::Take(q) => q,
+        Call::Wrong(_) => p,
+    }
+}
+
+fn pushed_node(call: Call) -> u16
+    ensures { λ r. ⌜ r ≡ pushedNode call ⌝ }
+{
+    match call {
+        Call::Push(node) => node,
+        Call::Pop => 0,
+        Call::Take(_) => 0,
+        Call::Wrong(_) => 0,
+    }
+}
+
+fn is_take(call: Call) -> bool
+    ensures { λ r. ⌜ r ≡ isTake call ⌝ }
+{
+    match call {
+        Call::Push(_) => false,
+        Call::Pop => false,
+        Call::Take(_) => true,
+        Call::Wrong(_) => false,
+    }
+}
+
+// The entry of a call of process p, its record being of, that ends at step n.
+fn entry(p: u8, n: u16, of: Process, what: What, node: u16, moment: u16) -> Entry
+    ensures { λ r. ⌜ r ≡ entryOf p n of what node moment ⌝ }
+{
+    let call = of.call;
+    Entry {
+        process: p,
+        queue: queue_of(p, call),
+        kind: log::kind_of(what),
+        result: log::result_of(what),
+        node,
+        start: of.start,
+        end: n,
+        moment,
+    }
+}
+
+// A bottom pop with NIL: at B1, 2 × B1; at B7, 2 × B2 + 1.
+fn nil_moment(n: u16, of: Process) -> u16
+    requires { ⌜ (n ≤ 8191) × (of .back ≤ 8191) ⌝ }
+    ensures { λ r. ⌜ r ≡ nilMoment n of ⌝ }
+{
+    let stage = of.stage;
+    if queue::stages::past_b2(stage) {
+        2 * of.back + 1
+    } else {
+        2 * n
+    }
+}
+
+// A top pop with a node: 2 × T4, or 2 × B2 of the owner that was popping that node.
+fn take_moment(n: u16, owner: Process, t: u16) -> u16
+    requires { ⌜ (n ≤ 8191) × (owner .back ≤ 8191) ⌝ }
+    ensures { λ r. ⌜ r ≡ takeMoment n owner t ⌝ }
+{
+    let stage = owner.stage;
+    if queue::stages::pops_slot(stage, t) {
+        2 * owner.back
+    } else {
+        2 * n
+    }
+}
+
+// The entry of a pop with a node.
+fn node_entry(p: u8, n: u16, of: Process, owner: Process, t: u16, x: u16) -> Entry
+    requires { ⌜ (n ≤ 8191) × (of .back ≤ 8191) × (owner .back ≤ 8191) ⌝ }
+    ensures { λ r. ⌜ r ≡ nodeEntry p n of owner t x ⌝ }
+{
+    let call = of.call;
+    if is_take(call) {
+        entry(p, n, of, What::TopNode, x, take_moment(n, owner, t))
+    } else {
+        entry(p, n, of, What::BottomNode, x, 2 * of.back)
+    }
+}
+
+// The entry of a pop with NIL.
+fn nil_entry(p: u8, n: u16, of: Process) -> Entry
+    requires { ⌜ (n ≤ 8191) × (of .back ≤ 8191) ⌝ }
+    ensures { λ r. ⌜ r ≡ nilEntry p n of ⌝ }
+{
+    let call = of.call;
+    if is_take(call) {
+        entry(p, n, of, What::TopNil, 0, log::NO_MOMENT)
+    } else {
+        entry(p, n, of, What::BottomNil, 0, nil_moment(n, of))
+    }
+}
+
+// What step n of process p ends: of is its record, owner that of its queue's owner, and t the queue's top, all before the step.
+pub(crate) fn ended(p: u8, n: u16, of: Process, owner: Process, t: u16, next: Next) -> Ended
+    requires { ⌜ (n ≤ 8191) × (of .back ≤ 8191) × (owner .back ≤ 8191) ⌝ }
+    ensures { λ r. ⌜ r ≡ endedOf p n of owner t next ⌝ }
+{
+    let call = of.call;
+    let node = pushed_node(call);
+    match next {
+        Next::Going(_) => Ended::Nothing,
+        Next::Done => Ended::Call(entry(p, n, of, What::Pushed, node, 2 * n)),
+        Next::Node(x) => Ended::Call(node_entry(p, n, of, owner, t, x)),
+        Next::Nil => Ended::Call(nil_entry(p, n, of)),
+        Next::Full => Ended::Call(entry(p, n, of, What::Full, node, log::NO_MOMENT)),
+        Next::Refused => Ended::Nothing,
+    }
+}
+
+// How many gone-round takes a step is: a successful T4 whose queue was reset since its T1.
+pub(crate) fn gone_round(of: Process, resets: u16, next: Next) -> u16
+    ensures { λ r. ⌜ r ≡ goneRound of resets next ⌝ }
+{
+    let call = of.call;
+    match next {
+        Next::Going(_) => 0,
+        Next::Done => 0,
+        Next::Node(_) => {
+            if is_take(call) & (of.seen != resets) {
+                1
+            } else {
+                0
+            }
+        }
+        Next::Nil => 0,
+        Next::Full => 0,
+        Next::Refused => 0,
+    }
+}

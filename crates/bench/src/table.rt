@@ -1,0 +1,60 @@
+// The final table: for each of eight queues bottom, top, tag and 64 slots.
+ghost use mathlib.Core.Path.{_≡_};
+ghost use mathlib.Core.List.{[]};
+ghost use Prim.Native.Nat.{_≤_, _<_};
+ghost use lib.ListN.{length, getD};
+ghost use Rattle.log.specs.Encode.{listOf};
+ghost use Rattle.bench.specs.Layout.{slotsOf, slotsIn};
+ghost use Rattle.bench.specs.Run.{tableRow, tableAt, tableSize};
+use crate::Bench;
+use crate::turn::queue_at;
+use queue::Word;
+
+// Number i of a queue's row: bottom, top, tag, the slots, and 0 past them.
+fn in_row(word: Word, size: u8, slots: &[u16], q: usize, i: usize) -> u16
+    requires { ⌜ (length (now slots) ≡ 512) × (size ≤ 64) × (q < 8) ⌝ }
+    ensures { λ r. ⌜ r ≡ getD (tableRow word (slotsOf size (now (slots .entry)) q)) i 0 ⌝ }
+{
+    if i == 0 {
+        return word.bottom;
+    }
+    if i == 1 {
+        return word.top;
+    }
+    if i == 2 {
+        return word.tag;
+    }
+    let at = i - 3;
+    if at < size as usize {
+        slots[64 * q + at]
+    } else {
+        0
+    }
+}
+
+// Number k of the table.
+fn table_at(processes: u8, size: u8, state: Bench, slots: &[u16], k: usize) -> u16
+    requires { ⌜ (length (now slots) ≡ 512) × (size ≤ 64) × (processes ≤ 8) × (length (state .queues) ≡ 8) ⌝ }
+    ensures { λ r. ⌜ r ≡ tableAt processes state (slotsIn size (now (slots .entry))) k ⌝ }
+{
+    let q = k / 67;
+    let i = k % 67;
+    if q < processes as usize {
+        let queue = queue_at(state, q as u8);
+        let word = queue.word;
+        in_row(word, size, slots, q, i)
+    } else {
+        0
+    }
+}
+
+pub(crate) fn fill(table: &mut [u16], processes: u8, size: u8, state: Bench, slots: &[u16])
+    requires { ⌜ (length (now slots) ≡ 512) × (size ≤ 64) × (processes ≤ 8) × (length (state .queues) ≡ 8) × (length (now table) ≡ tableSize) ⌝ }
+    ensures { λ _. ⌜ now (table .exit) ≡ listOf tableSize (tableAt processes state (slotsIn size (now (slots .entry)))) ⌝ }
+{
+    let mut k: usize = 0;
+    while k < 536 {
+        table[k] = table_at(processes, size, state, slots, k);
+        k = k + 1;
+    }
+}

@@ -1,0 +1,310 @@
+// One step of a run, through the step of the queue.
+ghost use mathlib.Core.Path.{_≡_};
+ghost use mathlib.Core.Bool.{cond};
+ghost use Prim.Native.Nat.{_≤_, _<_};
+ghost use lib.ListN.{length, getD};
+ghost use Rattle.queue.specs.Step.{still};
+ghost use Rattle.queue.specs.StepLaws.{stageAfter};
+ghost use Rattle.bench.specs.Layout.{slotsOf, slotsIn, stateIn, putEntries, Becomes, StepsIn, Counted};
+ghost use Rattle.bench.specs.State.{queueAt, processAt, withQueue, withProcess};
+ghost use Rattle.runfile.specs.File.{firstCalls};
+ghost use Rattle.bench.specs.Turn.{firstStage, begun as begunOf, processAfter, queueAfter, isRefused, count as countOf, entriesIn, benchAfter, idleStep, ready as readyOf, act as actOf, turn as turnOf};
+use crate::Bench;
+use crate::Ended;
+use crate::Process;
+use crate::Queue;
+use crate::moment;
+use queue::Next;
+use queue::Stage;
+use queue::Stepped;
+use queue::Store;
+use queue::Word;
+use runfile::Call;
+use runfile::Shape;
+
+fn first_stage(call: Call) -> Stage
+    ensures { λ r. ⌜ r ≡ firstStage call ⌝ }
+{
+    match call {
+        Call::Push(node) => Stage::P1 { node },
+        Call::Pop => Stage::B1,
+        Call::Take(_) => Stage::T1,
+        Call::Wrong(_) => Stage::Idle,
+    }
+}
+
+// A call starts at its first step.
+fn begun(n: u16, call: Call, of: Process) -> Process
+    requires { ⌜ of .next < 65535 ⌝ }
+    ensures { λ r. ⌜ r ≡ begunOf n call of ⌝ }
+{
+    Process {
+        stage: first_stage(call),
+        call,
+        next: of.next + 1,
+        start: n,
+        ..of
+    }
+}
+
+fn stage_after(next: Next) -> Stage
+    ensures { λ r. ⌜ r ≡ stageAfter next ⌝ }
+{
+    match next {
+        Next::Going(stage) => stage,
+        Next::Done => Stage::Idle,
+        Next::Node(_) => Stage::Idle,
+        Next::Nil => Stage::Idle,
+        Next::Full => Stage::Idle,
+        Next::Refused => Stage::Idle,
+    }
+}
+
+fn is_refused(next: Next) -> bool
+    ensures { λ r. ⌜ r ≡ isRefused next ⌝ }
+{
+    match next {
+        Next::Going(_) => false,
+        Next::Done => false,
+        Next::Node(_) => false,
+        Next::Nil => false,
+        Next::Full => false,
+        Next::Refused => true,
+    }
+}
+
+fn if_so(test: bool, yes: u16, no: u16) -> u16
+    ensures { λ r. ⌜ r ≡ cond test yes no ⌝ }
+{
+    if test { yes } else { no }
+}
+
+// The record after step n of its process; resets are those of its queue before the step.
+fn process_after(n: u16, resets: u16, of: Process, next: Next) -> Process
+    ensures { λ r. ⌜ r ≡ processAfter n resets of next ⌝ }
+{
+    let stage = of.stage;
+    Process {
+        stage: stage_after(next),
+        back: if_so(queue::stages::at_b2(stage), n, of.back),
+        seen: if_so(queue::stages::at_t1(stage), resets, of.seen),
+        ..of
+    }
+}
+
+fn queue_after(before: Queue, stepped: Stepped) -> Queue
+    requires { ⌜ before .resets ≤ 8191 ⌝ }
+    ensures { λ r. ⌜ r ≡ queueAfter before stepped ⌝ }
+{
+    let word = stepped.word;
+    let again = before.resets + 1;
+    Queue {
+        word,
+        resets: if_so(stepped.reset, again, before.resets),
+    }
+}
+
+pub(crate) fn queue_at(state: Bench, q: u8) -> Queue
+    requires { ⌜ length (state .queues) ≡ 8 ⌝ }
+    ensures { λ r. ⌜ r ≡ queueAt state q ⌝ }
+{
+    let q = q as usize;
+    if q < 8 {
+        state.queues[q]
+    } else {
+        crate::start::fresh()
+    }
+}
+
+pub(crate) fn process_at(state: Bench, p: u8) -> Process
+    requires { ⌜ length (state .processes) ≡ 8 ⌝ }
+    ensures { λ r. ⌜ r ≡ processAt state p ⌝ }
+{
+    let p = p as usize;
+    if p < 8 {
+        state.processes[p]
+    } else {
+        crate::start::waiting(0, 0)
+    }
+}
+
+fn refused(word: Word) -> Stepped
+    ensures { λ r. ⌜ r ≡ still word Next.Refused ⌝ }
+{
+    Stepped {
+        word,
+        store: Store::Nothing,
+        reset: false,
+        next: Next::Refused,
+    }
+}
+
+// The step of a queue on its part of the row of slots; where there is no such queue, or C is no size, it is refused.
+fn step_slots(width: u8, size: u8, word: Word, slots: &mut [u16], q: u8, stage: Stage) -> Stepped
+    requires { ⌜ length (now slots) ≡ 512 ⌝ }
+    ensures { λ r. ⌜ StepsIn width size word (now (slots .entry)) q stage r (now (slots .exit)) ⌝ }
+{
+    if 8 <= q {
+        return refused(word);
+    }
+    if 64 < size {
+        return refused(word);
+    }
+    let from = 64 * (q as usize);
+    let to = from + size as usize;
+    queue::step_on(width, size, word, &mut slots[from..to], stage)
+}
+
+fn count(over: Ended) -> u16
+    ensures { λ r. ⌜ r ≡ countOf over ⌝ }
+{
+    match over {
+        Ended::Nothing => 0,
+        Ended::Call(_) => 1,
+    }
+}
+
+// Puts what a step ended after the n entries of the log.
+fn keep(log: &mut [u8], n: u16, over: Ended)
+    ensures { λ _. ⌜ now (log .exit) ≡ putEntries n (entriesIn over) (now (log .entry)) ⌝ }
+{
+    let at = 5 + 12 * (n as usize);
+    match over {
+        Ended::Nothing => {}
+        Ended::Call(entry) => log::put_entry(log, at, entry),
+    }
+}
+
+fn with_queue(state: Bench, q: u8, queue: Queue) -> Bench
+    requires { ⌜ length (state .queues) ≡ 8 ⌝ }
+    ensures { λ r. ⌜ r ≡ withQueue state q queue ⌝ }
+{
+    let q = q as usize;
+    if q < 8 {
+        let mut changed = state;
+        changed.queues[q] = queue;
+        changed
+    } else {
+        state
+    }
+}
+
+fn with_process(state: Bench, p: u8, process: Process) -> Bench
+    requires { ⌜ length (state .processes) ≡ 8 ⌝ }
+    ensures { λ r. ⌜ r ≡ withProcess state p process ⌝ }
+{
+    let p = p as usize;
+    if p < 8 {
+        let mut changed = state;
+        changed.processes[p] = process;
+        changed
+    } else {
+        state
+    }
+}
+
+// The bench after the step of process p, whose record is of, on queue q, whose record was before, with what the step ended.
+fn bench_after(
+    state: Bench,
+    p: u8,
+    q: u8,
+    of: Process,
+    before: Queue,
+    stepped: Stepped,
+    over: Ended,
+) -> Bench
+    requires { ⌜ Counted state × (state .steps < 8191) × (before ≡ queueAt state q) ⌝ }
+    ensures { λ r. ⌜ r ≡ benchAfter state p q of stepped over ⌝ }
+{
+    let next = stepped.next;
+    let queue = queue_after(before, stepped);
+    let process = process_after(state.steps, before.resets, of, next);
+    let mut after = with_process(with_queue(state, q, queue), p, process);
+    after.entries = state.entries + count(over);
+    after.steps = state.steps + 1;
+    after.gone = state.gone + moment::gone_round(of, before.resets, next);
+    after.refused = state.refused | is_refused(next);
+    after
+}
+
+// A step of process p in its call; of is its record.
+pub(crate) fn act(
+    width: u8,
+    size: u8,
+    state: Bench,
+    slots: &mut [u16],
+    log: &mut [u8],
+    p: u8,
+    of: Process,
+) -> Bench
+    requires { ⌜ Counted state × (state .steps < 8191) × (of .back ≤ state .steps) × (length (now slots) ≡ 512) ⌝ }
+    ensures { λ r. ⌜ Becomes size (state .entries) (now (log .entry)) (actOf width size p of (stateIn size state (now (slots .entry)))) r (now (slots .exit)) (now (log .exit)) ⌝ }
+{
+    let call = of.call;
+    let stage = of.stage;
+    let q = moment::queue_of(p, call);
+    let before = queue_at(state, q);
+    let owner = process_at(state, q);
+    let word = before.word;
+    let stepped = step_slots(width, size, word, slots, q, stage);
+    let next = stepped.next;
+    let over = moment::ended(p, state.steps, of, owner, word.top, next);
+    keep(log, state.entries, over);
+    bench_after(state, p, q, of, before, stepped, over)
+}
+
+// Call k of a file; past the last call of the file there is none to begin.
+fn call_in(file: &[u8], shape: Shape, k: u16) -> Call
+    ensures { λ r. ⌜ r ≡ getD (firstCalls (now (file .entry)) (shape .processes) (shape .calls)) k Call.Pop ⌝ }
+{
+    if k < shape.calls {
+        runfile::call_at(file, shape.processes, k)
+    } else {
+        Call::Pop
+    }
+}
+
+// An idle process with a call left begins it.
+fn ready(file: &[u8], shape: Shape, n: u16, of: Process) -> Process
+    ensures { λ r. ⌜ r ≡ readyOf (firstCalls (now (file .entry)) (shape .processes) (shape .calls)) n of ⌝ }
+{
+    let stage = of.stage;
+    let k = of.next;
+    if queue::stages::is_idle(stage) & (k < of.stop) {
+        begun(n, call_in(file, shape, k), of)
+    } else {
+        of
+    }
+}
+
+// An idle step counts and alters nothing.
+fn idle_step(state: Bench) -> Bench
+    requires { ⌜ state .steps < 8191 ⌝ }
+    ensures { λ r. ⌜ r ≡ idleStep state ⌝ }
+{
+    let mut after = state;
+    let counted = state.steps + 1;
+    after.steps = counted;
+    after
+}
+
+// A schedule step of process p.
+pub(crate) fn turn(
+    file: &[u8],
+    shape: Shape,
+    state: Bench,
+    slots: &mut [u16],
+    log: &mut [u8],
+    p: u8,
+) -> Bench
+    requires { ⌜ Counted state × (state .steps < 8191) × (length (now slots) ≡ 512) ⌝ }
+    ensures { λ r. ⌜ Becomes (shape .size) (state .entries) (now (log .entry)) (turnOf (shape .width) (shape .size) (firstCalls (now (file .entry)) (shape .processes) (shape .calls)) p (stateIn (shape .size) state (now (slots .entry)))) r (now (slots .exit)) (now (log .exit)) ⌝ }
+{
+    let of = ready(file, shape, state.steps, process_at(state, p));
+    let stage = of.stage;
+    if queue::stages::is_idle(stage) {
+        idle_step(state)
+    } else {
+        act(shape.width, shape.size, state, slots, log, p, of)
+    }
+}
