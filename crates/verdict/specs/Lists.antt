@@ -1,0 +1,96 @@
+-- What holds of all elements of a list, of all pairs, and membership; the ends of a list.
+use Prim.Native.Nat.{ℕ, zero, suc, _+_, _-_, _≤_, _<_}
+use mathlib.Core.Path.{_≡_, refl, sym, ap, _∙_}
+use mathlib.Core.List.{List, [], _∷_, _++_}
+use mathlib.Core.Logic.{_⊎_, inl, inr}
+use native.Mathlib.Omega.{arith}
+use native.Mathlib.Numerals.{add-one}
+use lib.ListN.{getD, length, take}
+use lib.Seq.{slice, drop-nil, slice-empty, take-suc, drop-append-le, length-take-le}
+use Rattle.judge.specs.Contents.{dropLast}
+
+abbrev pub All : {A : Type 0} → (A → Type 0) → List A → Type 0
+All P [] = Unit {0}
+All P (x ∷ l) = P x × All P l
+
+-- what holds of every element and every later one
+abbrev pub Pairs : {A : Type 0} → (A → A → Type 0) → List A → Type 0
+Pairs R [] = Unit {0}
+Pairs R (x ∷ l) = All (R x) l × Pairs R l
+
+abbrev pub In : {A : Type 0} → A → List A → Type 0
+In a [] = ⊥
+In a (x ∷ l) = (a ≡ x) ⊎ In a l
+
+module _ {A : Type 0} where
+  pub all-snoc : (P : A → Type 0) (l : List A) (a : A) → All P l → P a → All P (l ++ (a ∷ []))
+  all-snoc P [] a h p = (p, tt)
+  all-snoc P (x ∷ l) a h p = (h .0, all-snoc P l a (h .1) p)
+
+  pub all-map : (P Q : A → Type 0) → ((x : A) → P x → Q x) → (l : List A) → All P l → All Q l
+  all-map P Q f [] h = tt
+  all-map P Q f (x ∷ l) h = (f x (h .0), all-map P Q f l (h .1))
+
+  pub all-in : (P : A → Type 0) (l : List A) → ((x : A) → In x l → P x) → All P l
+  all-in P [] f = tt
+  all-in P (x ∷ l) f = (f x (inl refl), all-in P l (λ y i. f y (inr i)))
+
+  pub in-all : (P : A → Type 0) (l : List A) → All P l → (x : A) → In x l → P x
+  in-all P [] h x i = absurd i
+  in-all P (y ∷ l) h x (inl e) = rw e (h .0)
+  in-all P (y ∷ l) h x (inr i) = in-all P l (h .1) x i
+
+  pub in-snoc : (l : List A) (a x : A) → In x l → In x (l ++ (a ∷ []))
+  in-snoc [] a x i = absurd i
+  in-snoc (y ∷ l) a x (inl e) = inl e
+  in-snoc (y ∷ l) a x (inr i) = inr (in-snoc l a x i)
+
+  pub in-last : (l : List A) (a : A) → In a (l ++ (a ∷ []))
+  in-last [] a = inl refl
+  in-last (y ∷ l) a = inr (in-last l a)
+
+  pub pairs-snoc : (R : A → A → Type 0) (l : List A) (a : A) → Pairs R l → All (λ x. R x a) l → Pairs R (l ++ (a ∷ []))
+  pairs-snoc R [] a h p = (tt, tt)
+  pairs-snoc R (x ∷ l) a h p = (all-snoc (R x) l a (h .0) (p .0), pairs-snoc R l a (h .1) (p .1))
+
+  -- by places
+  pub all-at : (P : A → Type 0) (d : A) (l : List A) → All P l → (i : ℕ) → i < length l → P (getD l i d)
+  all-at P d [] h i lt = absurd (omega arith)
+  all-at P d (x ∷ l) h zero lt = h .0
+  all-at P d (x ∷ l) h (suc i) lt = all-at P d l (h .1) i (omega arith)
+
+  pub pairs-at : (R : A → A → Type 0) (d : A) (l : List A) → Pairs R l → (i j : ℕ) → i < j → j < length l → R (getD l i d) (getD l j d)
+  pairs-at R d [] h i j lt below = absurd (omega arith)
+  pairs-at R d (x ∷ l) h i zero lt below = absurd (omega arith)
+  pairs-at R d (x ∷ l) h zero (suc j) lt below = all-at (R x) d l (h .0) j (omega arith)
+  pairs-at R d (x ∷ l) h (suc i) (suc j) lt below = pairs-at R d l (h .1) i j (omega arith) (omega arith)
+
+  pub at-in : (d : A) (l : List A) (i : ℕ) → i < length l → In (getD l i d) l
+  at-in d [] i lt = absurd (omega arith)
+  at-in d (x ∷ l) zero lt = inl refl
+  at-in d (x ∷ l) (suc i) lt = inr (at-in d l i (omega arith))
+
+  pub in-at : (d : A) (l : List A) (x : A) → In x l → (i : ℕ) × (i < length l) × (getD l i d ≡ x)
+  in-at d [] x i = absurd i
+  in-at d (y ∷ l) x (inl e) = (0, omega arith, sym e)
+  in-at d (y ∷ l) x (inr i) = let k = in-at d l x i in (suc (k .0), omega (arith, k .1), k .2)
+
+pub drop-last : (c : List ℕ) (x : ℕ) → dropLast (c ++ (x ∷ [])) ≡ c
+drop-last [] x = refl
+drop-last (y ∷ []) x = refl
+drop-last (y ∷ z ∷ c) x = ap (λ d. y ∷ d) (drop-last (z ∷ c) x)
+
+-- the nodes of slots f up to t: none, one more at the bottom, just one
+pub slice-none : (f t : ℕ) (l : List ℕ) → t ≤ f → slice f t l ≡ []
+slice-none f zero l h = drop-nil f
+slice-none zero (suc t) l h = absurd (omega arith)
+slice-none (suc f) (suc t) [] h = refl
+slice-none (suc f) (suc t) (x ∷ l) h = slice-none f t l (omega arith)
+
+pub slice-snoc : (f t : ℕ) (l : List ℕ) → f ≤ t → t < length l → slice f (suc t) l ≡ slice f t l ++ (getD l t 0 ∷ [])
+slice-snoc f t l h k =
+    let len : length (take t l) ≡ t = length-take-le t l (omega arith) in
+    rw (take-suc l t 0 k, drop-append-le f (take t l) (getD l t 0 ∷ []) (omega arith))
+
+pub one-node : (t b : ℕ) (l : List ℕ) → b ≡ t + 1 → t < length l → slice t b l ≡ getD l t 0 ∷ []
+one-node t b l e h = rw (e, add-one) (slice-snoc t t l (omega arith) h ∙ rw (slice-empty t l))
