@@ -4,3 +4,4 @@ pub mod Decode
 pub mod Encode
 pub mod EncodeLaws
 pub mod Settled
+pub mod Worked

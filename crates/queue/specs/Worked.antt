@@ -4,9 +4,11 @@ use mathlib.Core.Bool.{true, false}
 use Prim.Native.Nat.{ℕ}
 use Rattle.queue.specs.Tag.{nextTag}
 use Rattle.queue.specs.Range.{inRange}
-use Rattle.queue.specs.Step.{still, resets, rowOf}
+use Rattle.queue.specs.Stages.{rowNumber, isIdle, atT1, atB2, pastB2, popsSlot}
+use Rattle.queue.specs.Step.{still, resets, rowOf, loadedSlot}
+use Rattle.queue.specs.declared.Load.the-variants as Load
 use Rattle.queue.specs.declared.Word.{Word}
-use Rattle.queue.specs.declared.Stage.the-variants.{P1, P2, P3, T2, T3, T4, B1, B2, B3, B4, B5, B6, B7}
+use Rattle.queue.specs.declared.Stage.the-variants.{Idle, P1, P2, P3, T1, T2, T3, T4, B1, B2, B3, B4, B5, B6, B7}
 use Rattle.queue.specs.declared.Next.the-variants.{Going, Node, Nil, Full}
 
 abbrev word : ℕ → ℕ → ℕ → Word
@@ -32,6 +34,16 @@ last-node = (refl, refl)
 reset : (rowOf 2 4 (word 0 1 2) 0 (B7 1 7 0 2) ≡ resets 2 (word 0 1 2) 2 Nil) × (rowOf 2 4 (word 0 1 2) 0 (B7 1 7 0 2) .word ≡ word 0 0 3)
     × (nextTag 2 3 ≡ 0) × (nextTag 16 65535 ≡ 0) × (nextTag 16 65534 ≡ 65535)
 reset = (refl, refl, refl, refl, refl)
+
+-- where stages stand, with a stage beside each that stands elsewhere
+stands : (rowNumber Idle ≡ 0) × (rowNumber (B7 1 7 0 0) ≡ 14)
+    × (isIdle Idle ≡ true) × (isIdle T1 ≡ false) × (atT1 T1 ≡ true) × (atT1 (T2 0 0) ≡ false) × (atB2 (B2 1) ≡ true) × (atB2 (B3 1) ≡ false)
+    × (pastB2 (B3 1) ≡ true) × (pastB2 (B2 1) ≡ false) × (popsSlot (B3 2) 1 ≡ true) × (popsSlot (B3 2) 2 ≡ false) × (popsSlot (B2 2) 1 ≡ false)
+stands = (refl, refl, refl, refl, refl, refl, refl, refl, refl, refl, refl, refl, refl)
+
+-- T3 loads slot t and B3 slot b−1; P2 loads none, and stores
+loads : (loadedSlot (T3 2 0 3) ≡ Load.Slot 2) × (loadedSlot (B3 3) ≡ Load.Slot 2) × (loadedSlot (P2 7 3) ≡ Load.Nothing)
+loads = (refl, refl, refl)
 
 -- each of the desk's conditions, broken alone; the first line breaks none
 ranges : (inRange 8 4 4 (word 4 4 255) (T4 3 255 4 7) ≡ true)

@@ -21,3 +21,4 @@ pub mod Accepted
 pub mod Programs
 pub mod WorkedRuns
 pub mod ShutOut
+pub mod SameStep
