@@ -1,7 +1,8 @@
-/* The judge of a log, for a host program in C. Link with libjudge.a (x86-64).
+/* The bench and the judge, for a host program in C. Link with libbench.a for scarpgoblet_run and with libjudge.a for the other two
+ * (x86-64): `rt staticlib bench` and `rt staticlib judge` make them, and a host may link both.
  *
- * A log is `length` bytes at `log`, which is not null even where there are none. Both functions answer for any bytes, write to
- * none, and keep nothing between calls. */
+ * All three functions answer for any bytes and any lengths, and keep nothing between calls. No pointer may be null, not even where
+ * its length is 0. */
 #ifndef SCARPGOBLET_H
 #define SCARPGOBLET_H
 
@@ -12,7 +13,27 @@
 extern "C" {
 #endif
 
-/* 0 where the log is accepted, 11 to 13 where it is no log, 14 to 19 where an entry breaks rule 1 to 6. */
+/* A log has 5 bytes and 12 for each entry, and a file has at most 256 calls: a buffer of this many bytes is long enough for every
+ * file. */
+#define SCARPGOBLET_LOG_MOST 3077
+
+/* Runs the run file of `file_len` bytes at `file`. Writes its log at the front of the `log_len` bytes at `log`, and gives the number of
+ * bytes written; the bytes after them stay as they were. No two of `file`, `log`, `report` and `table` may overlap. Written on return
+ * are:
+ *
+ * report[0]: the number: 0 where the file was run, 1 to 7 where the file is refused, 8 where the log's bytes are fewer than
+ *            5 + 12 * the file's calls; 9 stands for a step outside a queue's slots, which no file leads to;
+ * report[1]: entries, the calls that ended, which are the entries of the log;
+ * report[2]: steps, those of the closing among them;
+ * report[3]: gone-round takes: successful takes whose queue was reset since their first step;
+ * table[67 * q], q from 0 to 7: queue q after the closing: bottom, top, tag and 64 slots, unused ones 0; all 0 for a queue
+ *            that no process of the file owns.
+ *
+ * A refusal gives 0, leaves every byte at `log` as it was, and sets all of report but its number, and all of table, to 0. */
+size_t scarpgoblet_run(const uint8_t *file, size_t file_len, uint8_t *log, size_t log_len, uint16_t report[4], uint16_t table[536]);
+
+/* Judges the log of `length` bytes at `log`, and writes to none of them: 0 where it is accepted, 11 to 13 where it is no log, 14 to 19
+ * where an entry breaks rule 1 to 6. */
 uint32_t scarpgoblet_judge(const uint8_t *log, size_t length);
 
 /* The entry at fault, from 0, where the number is 14 to 19; else 0. */

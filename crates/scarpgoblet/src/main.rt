@@ -1,0 +1,75 @@
+// The program: with no argument it runs the run file on standard input and prints its log, its counts and the judge's number; with
+// `judge` it judges the log on standard input.
+use libc::STDERR_FILENO;
+use libc::STDIN_FILENO;
+use libc::STDOUT_FILENO;
+
+mod print; // lines of numbers
+
+// One byte more than the longest good run file, which has 3 + (1 + 8) + (2 + 3 × 256) + (2 + 4,096) = 4,880. The rest of a longer file is not
+// read, and its reply is that of these bytes. For up to the first thing that is wrong each count is in its range, so a section that is reached
+// starts, and if its count is right ends, within the first 4,880: number 1 does not arise, 2 to 6 are decided there, and if none of them is
+// given, there is a byte after section 4 among the 4,881, which is 7.
+const FILE_BYTES: usize = 4881;
+
+// The longest log of a good file: 5 + 12 × 256.
+const LOG_BYTES: usize = 3077;
+
+// One byte more than the longest log. The rest of a longer one is not read, and its reply is that of these bytes: the first five decide 12, and
+// if that is not given there are at most 256 entries, so that a byte stands after them, which is 13.
+const JUDGED_BYTES: usize = 3078;
+
+// Whether standard input can be read, which a read of no bytes tells: a folder and a closed one cannot, and are no empty file.
+fn can_read() -> bool {
+    let mut none = [0u8; 0];
+    let got = libc::read(STDIN_FILENO, &mut none);
+    if got < 0 {
+        os::fail(b"scarpgoblet: standard input");
+        return false;
+    }
+    true
+}
+
+// Runs the file on standard input.
+fn run() {
+    let mut file = [0u8; FILE_BYTES];
+    let n = io::read_full(STDIN_FILENO, &mut file);
+    let mut buffer = [0u8; LOG_BYTES];
+    let mut report = [0u16; 4];
+    let mut table = [0u16; 536];
+    let log = bench::run(&file[..n], &mut buffer, &mut report, &mut table);
+    if report[0] != 0 {
+        print::refused(report[0]);
+        return;
+    }
+    let verdict = judge::judge(log);
+    print::entries(log, report[1]);
+    print::counts(report[1], report[2], report[3], verdict.number);
+}
+
+// Judges the log on standard input.
+fn judge() {
+    let mut log = [0u8; JUDGED_BYTES];
+    let n = io::read_full(STDIN_FILENO, &mut log);
+    let verdict = judge::judge(&log[..n]);
+    print::verdict(verdict.number, verdict.entry);
+}
+
+fn main() {
+    let mut word = [0u8; 8];
+    let n = os::arg(1, &mut word);
+    let words = os::arg_count();
+    if words <= 1 {
+        if can_read() {
+            run();
+        }
+    } else if words == 2 && check::same(&word[..n], b"judge") {
+        if can_read() {
+            judge();
+        }
+    } else if words == 2 && check::same(&word[..n], b"help") {
+        print::usage(STDOUT_FILENO);
+    } else {
+        print::usage(STDERR_FILENO);
+    }
+}
