@@ -152,6 +152,10 @@ module _ (s : List ℕ) (bytes : Bytes s) (shape : Shape) (e : readingOf (fileOf
       ap (λ (x : Shape). listOf (x .steps) (whoAt s (x .processes) (x .calls))) is-shape
       ∙ same-list (f .schedule) (whoAt s (length (f .shares)) (length (f .calls))) (good-access s f is-good .who)
 
+  pub who-below : (k : ℕ) → k < shape .steps → whoAt s (shape .processes) (shape .calls) k < 8
+  who-below = subst (λ (x : Shape). (k : ℕ) → k < x .steps → whoAt s (x .processes) (x .calls) k < 8) (sym is-shape)
+      (λ k h. omega (arith, good-access s f is-good .who k h, in-ranges .schedule k h, in-ranges .processes))
+
   abbrev W : ℕ
   W = shape .width
 

@@ -1,6 +1,7 @@
 -- How a state lies in the program's arrays: all slots in one row of 64 for each of eight queues, and the log as its bytes.
 use Prim.Native.Nat.{ℕ, zero, suc, _+_, _*_, _≤_}
 use mathlib.Core.Path.{_≡_}
+use mathlib.Core.Bool.{_||_}
 use mathlib.Core.List.{List, [], _∷_}
 use lib.ListN.{length, getD, take, drop, set}
 use Rattle.log.specs.Encode.{listOf, entryBytes, putAt}
@@ -10,7 +11,13 @@ use Rattle.queue.specs.declared.Stage.{Stage}
 use Rattle.queue.specs.declared.Stepped.{Stepped}
 use Rattle.queue.specs.declared.Word.{Word}
 use Rattle.bench.specs.State.{State, queueAt, processAt}
+use Rattle.bench.specs.Moment.{ended, goneRound}
+use Rattle.bench.specs.Turn.{queueAfter, processAfter, isRefused, entriesIn, count}
 use Rattle.bench.specs.declared.Bench.{Bench}
+use Rattle.bench.specs.declared.Ended.{Ended}
+use Rattle.bench.specs.declared.turn.Moved.{Moved}
+use Rattle.bench.specs.declared.Process.{Process}
+use Rattle.bench.specs.declared.Queue.{Queue}
 
 abbrev pub slotsOf : ℕ → List ℕ → ℕ → List ℕ
 slotsOf C flat q = take C (drop (64 * q) flat)
@@ -46,3 +53,27 @@ pub record Counted (b : Bench) : Type 0 where
   pub gone : b .gone ≤ b .steps
   pub resets : (q : ℕ) → queueAt b q .resets ≤ b .steps
   pub back : (p : ℕ) → processAt b p .back ≤ b .steps
+
+-- what step n of process p on queue q changes: r, before and owner are the records of the process, of the queue and of the queue's owner
+pub record Moves (W C p q n entries : ℕ) (r : Process) (before : Queue) (owner : Process) (flat log : List ℕ) (m : Moved) (flat′ log′ : List ℕ) : Type 0 where
+  pub step : Stepped
+  pub over : Ended
+  pub slots : StepsIn W C (before .word) flat q (r .stage) step flat′
+  pub ends : over ≡ ended p n r owner (before .word .top) (step .next)
+  pub bytes : log′ ≡ putEntries entries (entriesIn over) log
+  pub queue : m .queue ≡ queueAfter before step
+  pub process : m .process ≡ processAfter n (before .resets) r (step .next)
+  pub more : m .more ≡ count over
+  pub gone : m .gone ≡ goneRound r (before .resets) (step .next)
+  pub refused : m .refused ≡ isRefused (step .next)
+
+-- the bench with what a step of process p on queue q changes
+abbrev pub movedBench : Bench → ℕ → ℕ → Moved → Bench
+movedBench b p q m = record {
+  queues = set (b .queues) q (m .queue);
+  processes = set (b .processes) p (m .process);
+  entries = b .entries + m .more;
+  steps = b .steps + 1;
+  gone = b .gone + m .gone;
+  refused = b .refused || m .refused;
+}

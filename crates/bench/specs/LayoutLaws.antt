@@ -1,7 +1,7 @@
 -- Laws of the row of slots and of entries put into a log.
 use Prim.Native.Nat.{ℕ, zero, suc, _+_, _-_, _*_, _≤_, _<_}
 use mathlib.Core.Path.{_≡_, refl, sym, ap, _∙_, subst}
-use mathlib.Core.Bool.{Bool, true, false, cond}
+use mathlib.Core.Bool.{Bool, true, false, cond, _||_}
 use mathlib.Core.List.{List, [], _∷_, _++_}
 use native.Mathlib.Omega.{arith}
 use native.Mathlib.Decide.{decLt, ℕ-discrete}
@@ -24,14 +24,15 @@ use Rattle.queue.specs.declared.Stepped.{Stepped}
 use Rattle.queue.specs.declared.Store.{Store}
 use Rattle.queue.specs.declared.Store.the-variants as store
 use Rattle.queue.specs.declared.Word.{Word}
-use Rattle.bench.specs.Layout.{slotsOf, slotsIn, stateIn, StepsIn, putEntries, Becomes, Counted}
-use Rattle.bench.specs.Moment.{queueOf, ended}
+use Rattle.bench.specs.Layout.{slotsOf, slotsIn, stateIn, StepsIn, putEntries, Becomes, Counted, Moves, movedBench}
+use Rattle.bench.specs.Moment.{queueOf, ended, goneRound}
 use Rattle.bench.specs.State.{queueAt, processAt}
-use Rattle.bench.specs.Turn.{entriesIn, benchAfter, act, idleStep, ready, turnAs, turn}
-use Rattle.bench.specs.TurnLaws.{ready-back}
+use Rattle.bench.specs.Turn.{queueAfter, processAfter, entriesIn, benchAfter, act, idleStep, ready, turnAs, turn}
+use Rattle.bench.specs.TurnLaws.{ready-back, count-most, gone-most}
 use Rattle.bench.specs.declared.Bench.{Bench}
 use Rattle.bench.specs.declared.Ended.{Ended}
 use Rattle.bench.specs.declared.Process.{Process}
+use Rattle.bench.specs.declared.turn.Moved.{Moved}
 use Rattle.bench.specs.declared.Queue.{Queue}
 
 -- a list with a part put in its place
@@ -200,3 +201,28 @@ module _ (calls : List Call) (p : ℕ) (b : Bench) (w r : Process) (e : w ≡ pr
         → Becomes C (b .entries) log (turn W C calls p (stateIn C b flat)) b′ flat′ log′
     unfolding turn turnAs
     turn-acts flat′ log′ i h = record { bench = rw (← now, i) (h .bench); slots = rw (← now, i) (h .slots); bytes = rw (← now, i) (h .bytes) }
+
+-- the counts grow by at most 1, and the bench with what was changed is the bench after the step
+module _ (W C p q n entries : ℕ) (r : Process) (before : Queue) (owner : Process) (flat log : List ℕ) (m : Moved) (flat′ log′ : List ℕ)
+    (v : Moves W C p q n entries r before owner flat log m flat′ log′) where
+  pub moved-more : m .more ≤ 1
+  moved-more = omega (arith, v .more, count-most (v .over))
+
+  pub moved-gone : m .gone ≤ 1
+  moved-gone = omega (arith, v .gone, gone-most r (before .resets) (v .step .next))
+
+pub moves-become : (W C p q : ℕ) (r : Process) (before : Queue) (owner : Process) (b : Bench) (flat log : List ℕ) (m : Moved) (flat′ log′ : List ℕ) (b′ : Bench)
+    → Moves W C p q (b .steps) (b .entries) r before owner flat log m flat′ log′ → q ≡ queueOf p (r .call) → before ≡ queueAt b q → owner ≡ processAt b q → b′ ≡ movedBench b p q m
+    → Becomes C (b .entries) log (act W C p r (stateIn C b flat)) b′ flat′ log′
+moves-become W C p q r before owner b flat log m flat′ log′ b′ v e f g d =
+    act-becomes W C p r b flat log q before owner (v .step) (v .over) b′ flat′ log′ e f g (v .slots) (v .ends) (v .bytes) (d ∙ same)
+  where
+    same : movedBench b p q m ≡ benchAfter b p q r (v .step) (v .over)
+    same = λ i. record {
+      queues = set (b .queues) q ((v .queue ∙ ap (λ (x : Queue). queueAfter x (v .step)) f) i);
+      processes = set (b .processes) p ((v .process ∙ ap (λ (x : Queue). processAfter (b .steps) (x .resets) r (v .step .next)) f) i);
+      entries = b .entries + v .more i;
+      steps = b .steps + 1;
+      gone = b .gone + (v .gone ∙ ap (λ (x : Queue). goneRound r (x .resets) (v .step .next)) f) i;
+      refused = b .refused || v .refused i;
+    }

@@ -5,10 +5,10 @@ ghost use Prim.Native.Nat.{_≤_, _<_};
 ghost use lib.ListN.{length, getD};
 ghost use Rattle.queue.specs.Step.{still};
 ghost use Rattle.queue.specs.StepLaws.{stageAfter};
-ghost use Rattle.bench.specs.Layout.{slotsOf, slotsIn, stateIn, putEntries, Becomes, StepsIn, Counted};
+ghost use Rattle.bench.specs.Layout.{slotsOf, slotsIn, stateIn, putEntries, Becomes, StepsIn, Counted, Moves};
 ghost use Rattle.bench.specs.State.{queueAt, processAt, withQueue, withProcess};
 ghost use Rattle.runfile.specs.File.{firstCalls};
-ghost use Rattle.bench.specs.Turn.{firstStage, begun as begunOf, processAfter, queueAfter, isRefused, count as countOf, entriesIn, benchAfter, idleStep, ready as readyOf, act as actOf, turn as turnOf};
+ghost use Rattle.bench.specs.Turn.{firstStage, begun as begunOf, processAfter, queueAfter, isRefused, count as countOf, entriesIn, ready as readyOf, act as actOf};
 use crate::Bench;
 use crate::Ended;
 use crate::Process;
@@ -203,28 +203,47 @@ fn with_process(state: Bench, p: u8, process: Process) -> Bench
     }
 }
 
-// The bench after the step of process p, whose record is of, on queue q, whose record was before, with what the step ended.
-fn bench_after(
-    state: Bench,
+// What a step changes: the records of its queue and of its process, and by how much the counts grow.
+pub(crate) struct Moved {
+    pub queue: Queue,
+    pub process: Process,
+    pub more: u16,
+    pub gone: u16,
+    pub refused: bool,
+}
+
+// Step n of process p on queue q: of, before and owner are the records of the process, of the queue and of the queue's owner.
+pub(crate) fn moves(
+    width: u8,
+    size: u8,
+    slots: &mut [u16],
+    log: &mut [u8],
     p: u8,
     q: u8,
+    n: u16,
+    entries: u16,
     of: Process,
     before: Queue,
-    stepped: Stepped,
-    over: Ended,
-) -> Bench
-    requires { ⌜ Counted state × (state .steps < 8191) × (before ≡ queueAt state q) ⌝ }
-    ensures { λ r. ⌜ r ≡ benchAfter state p q of stepped over ⌝ }
+    owner: Process,
+) -> Moved
+    requires { ⌜ (n ≤ 8191) × (of .back ≤ 8191) × (owner .back ≤ 8191) × (before .resets ≤ 8191) × (length (now slots) ≡ 512) ⌝ }
+    ensures { λ r. ⌜ Moves width size p q n entries of before owner (now (slots .entry)) (now (log .entry)) r (now (slots .exit)) (now (log .exit)) ⌝ }
 {
+    let stage = of.stage;
+    let word = before.word;
+    let stepped = step_slots(width, size, word, slots, q, stage);
     let next = stepped.next;
+    let over = moment::ended(p, n, of, owner, word.top, next);
+    keep(log, entries, over);
     let queue = queue_after(before, stepped);
-    let process = process_after(state.steps, before.resets, of, next);
-    let mut after = with_process(with_queue(state, q, queue), p, process);
-    after.entries = state.entries + count(over);
-    after.steps = state.steps + 1;
-    after.gone = state.gone + moment::gone_round(of, before.resets, next);
-    after.refused = state.refused | is_refused(next);
-    after
+    let process = process_after(n, before.resets, of, next);
+    Moved {
+        queue,
+        process,
+        more: count(over),
+        gone: moment::gone_round(of, before.resets, next),
+        refused: is_refused(next),
+    }
 }
 
 // A step of process p in its call; of is its record.
@@ -241,16 +260,30 @@ pub(crate) fn act(
     ensures { λ r. ⌜ Becomes size (state .entries) (now (log .entry)) (actOf width size p of (stateIn size state (now (slots .entry)))) r (now (slots .exit)) (now (log .exit)) ⌝ }
 {
     let call = of.call;
-    let stage = of.stage;
     let q = moment::queue_of(p, call);
     let before = queue_at(state, q);
     let owner = process_at(state, q);
-    let word = before.word;
-    let stepped = step_slots(width, size, word, slots, q, stage);
-    let next = stepped.next;
-    let over = moment::ended(p, state.steps, of, owner, word.top, next);
-    keep(log, state.entries, over);
-    bench_after(state, p, q, of, before, stepped, over)
+    let moved = moves(
+        width,
+        size,
+        slots,
+        log,
+        p,
+        q,
+        state.steps,
+        state.entries,
+        of,
+        before,
+        owner,
+    );
+    let queue = moved.queue;
+    let process = moved.process;
+    let mut after = with_process(with_queue(state, q, queue), p, process);
+    after.entries = state.entries + moved.more;
+    after.steps = state.steps + 1;
+    after.gone = state.gone + moved.gone;
+    after.refused = state.refused | moved.refused;
+    after
 }
 
 // Call k of a file; past the last call of the file there is none to begin.
@@ -265,7 +298,7 @@ fn call_in(file: &[u8], shape: Shape, k: u16) -> Call
 }
 
 // An idle process with a call left begins it.
-fn ready(file: &[u8], shape: Shape, n: u16, of: Process) -> Process
+pub(crate) fn ready(file: &[u8], shape: Shape, n: u16, of: Process) -> Process
     ensures { λ r. ⌜ r ≡ readyOf (firstCalls (now (file .entry)) (shape .processes) (shape .calls)) n of ⌝ }
 {
     let stage = of.stage;
@@ -274,37 +307,5 @@ fn ready(file: &[u8], shape: Shape, n: u16, of: Process) -> Process
         begun(n, call_in(file, shape, k), of)
     } else {
         of
-    }
-}
-
-// An idle step counts and alters nothing.
-fn idle_step(state: Bench) -> Bench
-    requires { ⌜ state .steps < 8191 ⌝ }
-    ensures { λ r. ⌜ r ≡ idleStep state ⌝ }
-{
-    let mut after = state;
-    let counted = state.steps + 1;
-    after.steps = counted;
-    after
-}
-
-// A schedule step of process p.
-pub(crate) fn turn(
-    file: &[u8],
-    shape: Shape,
-    state: Bench,
-    slots: &mut [u16],
-    log: &mut [u8],
-    p: u8,
-) -> Bench
-    requires { ⌜ Counted state × (state .steps < 8191) × (length (now slots) ≡ 512) ⌝ }
-    ensures { λ r. ⌜ Becomes (shape .size) (state .entries) (now (log .entry)) (turnOf (shape .width) (shape .size) (firstCalls (now (file .entry)) (shape .processes) (shape .calls)) p (stateIn (shape .size) state (now (slots .entry)))) r (now (slots .exit)) (now (log .exit)) ⌝ }
-{
-    let of = ready(file, shape, state.steps, process_at(state, p));
-    let stage = of.stage;
-    if queue::stages::is_idle(stage) {
-        idle_step(state)
-    } else {
-        act(shape.width, shape.size, state, slots, log, p, of)
     }
 }

@@ -4,7 +4,7 @@ use mathlib.Core.Path.{refl}
 use lib.ListN.{length-replicate}
 use native.Mathlib.Omega.{arith}
 use borrow.Author.Needs.{needs}
-use Rattle.bench.specs.GoodLaws.{refusal-gives, gives-8, gives-9, gives-0, starts-counted, starts-at-0, few-steps, played-counted, played-few, ends}
+use Rattle.bench.specs.GoodLaws.{refusal-gives, gives-8, gives-9, gives-0, starts-counted, starts-at-0, few-steps, who-below, played-counted, played-few, ends}
 use Rattle.bench.proofs.run_good.Statement.{statement}
 use Rattle.bench.proofs.run_good.Tie as tie
 
@@ -33,7 +33,7 @@ slice-aggregate-play-2 : tie.Need-slice-aggregate-play-2
 slice-aggregate-play-2 c = search needs
 
 play-requires : tie.Need-play-requires
-play-requires c κs = (starts-counted (c .before .before .before .before .before .before .before .args .file .now) (λ i. c .before .before .before .before .before .before .shared-slice-known .given i .fits) (c .before .before .before .before .before .before .before .args .shape) (c .before .before .before .before .before .before .before .pre) _ (c .before .before .start .ensures), starts-at-0 (c .before .before .before .before .before .before .before .args .file .now) (λ i. c .before .before .before .before .before .before .shared-slice-known .given i .fits) (c .before .before .before .before .before .before .before .args .shape) (c .before .before .before .before .before .before .before .pre) _ (c .before .before .start .ensures), refl, few-steps (c .before .before .before .before .before .before .before .args .file .now) (λ i. c .before .before .before .before .before .before .shared-slice-known .given i .fits) (c .before .before .before .before .before .before .before .args .shape) (c .before .before .before .before .before .before .before .pre) _ (c .before .before .start .ensures))
+play-requires c κs = (starts-counted (c .before .before .before .before .before .before .before .args .file .now) (λ i. c .before .before .before .before .before .before .shared-slice-known .given i .fits) (c .before .before .before .before .before .before .before .args .shape) (c .before .before .before .before .before .before .before .pre) _ (c .before .before .start .ensures), starts-at-0 (c .before .before .before .before .before .before .before .args .file .now) (λ i. c .before .before .before .before .before .before .shared-slice-known .given i .fits) (c .before .before .before .before .before .before .before .args .shape) (c .before .before .before .before .before .before .before .pre) _ (c .before .before .start .ensures), refl, few-steps (c .before .before .before .before .before .before .before .args .file .now) (λ i. c .before .before .before .before .before .before .shared-slice-known .given i .fits) (c .before .before .before .before .before .before .before .args .shape) (c .before .before .before .before .before .before .before .pre) _ (c .before .before .start .ensures), who-below (c .before .before .before .before .before .before .before .args .file .now) (λ i. c .before .before .before .before .before .before .shared-slice-known .given i .fits) (c .before .before .before .before .before .before .before .args .shape) (c .before .before .before .before .before .before .before .pre))
 
 slice-aggregate-close : tie.Need-slice-aggregate-close
 slice-aggregate-close c = search needs

@@ -1,9 +1,10 @@
 -- `turn::act` meets its contract.
-use mathlib.Core.Path.{ap}
+use mathlib.Core.Path.{refl, ap}
 use native.Mathlib.Omega.{arith}
 use borrow.Author.Needs.{needs}
+use Rattle.bench.specs.declared.Queue.{Queue}
 use Rattle.bench.specs.declared.Process.{Process}
-use Rattle.bench.specs.LayoutLaws.{act-becomes}
+use Rattle.bench.specs.LayoutLaws.{moved-more, moved-gone, moves-become}
 use Rattle.bench.proofs.turn.act.Statement.{statement}
 use Rattle.bench.proofs.turn.act.Tie as tie
 
@@ -16,27 +17,32 @@ queue-at-requires c κs = search needs
 process-at-requires : tie.Need-process-at-requires
 process-at-requires c κs = search needs
 
-step-slots-requires : tie.Need-step-slots-requires
-step-slots-requires c κs = search needs
+moves-requires : tie.Need-moves-requires
+moves-requires c κs = (omega arith, omega arith, omega (arith, c .before .before .before .before .before .before .before .pre .0 .back (c .before .before .before .before .queue-of .result), ap (λ (x : Process). x .back) (c .before .before .process-at .ensures)), omega (arith, c .before .before .before .before .before .before .before .pre .0 .resets (c .before .before .before .before .queue-of .result), ap (λ (x : Queue). x .resets) (c .before .before .before .queue-at .ensures)), c .before .before .before .before .before .before .before .pre .3)
 
-ended-requires : tie.Need-ended-requires
-ended-requires c κs = let e = c .before .before .before .before .before .process-at .ensures in
-    omega (arith, c .before .before .before .before .before .before .before .before .before .before .pre .0 .back (c .before .before .before .before .before .before .before .queue-of .result), ap (λ (x : Process). x .back) e)
+with-queue-requires : tie.Need-with-queue-requires
+with-queue-requires c κs = c .before .before .before .before .before .before .before .before .before .before .before .before .before .before .pre .0 .queues
 
-keep-requires : tie.Need-keep-requires
-keep-requires c κs = search needs
+with-process-requires : tie.Need-with-process-requires
+with-process-requires c κs = rw (c .with-queue .ensures) (c .before .before .before .before .before .before .before .before .before .before .before .before .before .before .before .pre .0 .processes)
 
-bench-after-requires : tie.Need-bench-after-requires
-bench-after-requires c κs = search needs
+add-after : tie.Need-add-after
+add-after c = omega (arith, c .before .before .before .before .before .before .before .before .before .before .before .before .before .before .before .before .before .before .pre .0 .entries, c .before .before .before .before .before .before .before .before .before .before .before .before .before .before .before .before .before .before .pre .1, (moved-more _ _ _ _ _ _ _ _ _ _ _ _ _ _ (c .before .before .before .before .before .before .before .before .before .before .moves .ensures)))
+
+add-after-2 : tie.Need-add-after-2
+add-after-2 c = omega (arith, c .before .before .before .before .before .before .before .before .before .before .before .before .before .before .before .before .before .before .before .pre .1)
+
+add-after-3 : tie.Need-add-after-3
+add-after-3 c = omega (arith, c .before .before .before .before .before .before .before .before .before .before .before .before .before .before .before .before .before .before .before .before .before .pre .0 .gone, c .before .before .before .before .before .before .before .before .before .before .before .before .before .before .before .before .before .before .before .before .before .pre .1, (moved-gone _ _ _ _ _ _ _ _ _ _ _ _ _ _ (c .before .before .before .before .before .before .before .before .before .before .before .before .before .moves .ensures)))
 
 same-length : tie.Need-same-length
-same-length c = search needs
+same-length c = search (needs, c .before .before .before .before .before .before .before .before .before .before .before .before .before .before .slots .given)
 
 same-length-2 : tie.Need-same-length-2
-same-length-2 c = search needs
+same-length-2 c = search (needs, c .before .before .before .before .before .before .before .before .before .before .before .before .log .given)
 
 returns : tie.Need-returns
-returns c = act-becomes _ _ _ _ _ _ _ _ _ _ _ _ _ _ _ (c .before .before .before .before .before .before .before .before .before .before .before .before .before .queue-of .ensures) (c .before .before .before .before .before .before .before .before .before .before .before .before .queue-at .ensures) (c .before .before .before .before .before .before .before .before .before .before .before .process-at .ensures) (c .before .before .before .before .before .before .before .before .step-slots .ensures) (c .before .before .before .before .before .ended .ensures) (c .before .before .before .keep .ensures) (c .bench-after .ensures)
+returns c = moves-become _ _ _ _ _ _ _ _ _ _ _ _ _ _ (c .before .before .before .before .before .before .before .before .before .before .before .before .before .before .before .moves .ensures) (c .before .before .before .before .before .before .before .before .before .before .before .before .before .before .before .before .before .before .before .before .queue-of .ensures) (c .before .before .before .before .before .before .before .before .before .before .before .before .before .before .before .before .before .before .before .queue-at .ensures) (c .before .before .before .before .before .before .before .before .before .before .before .before .before .before .before .before .before .before .process-at .ensures) (rw (c .before .before .before .before .before .before .before .with-process .ensures, c .before .before .before .before .before .before .before .before .with-queue .ensures) refl)
 
 pub act-spec : {M : Type 1} → statement M
 act-spec =
@@ -45,10 +51,12 @@ act-spec =
     queue-of-requires
     queue-at-requires
     process-at-requires
-    step-slots-requires
-    ended-requires
-    keep-requires
-    bench-after-requires
+    moves-requires
+    with-queue-requires
+    with-process-requires
+    add-after
+    add-after-2
+    add-after-3
     same-length
     same-length-2
     returns)
