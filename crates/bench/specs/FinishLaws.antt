@@ -1,10 +1,8 @@
 -- The log's bytes as the program leaves them in the buffer, and that with them the run gives what is promised.
-use Prim.Native.Nat.{ℕ, zero, suc, _+_, _-_, _*_, _≤_, _<_}
-use mathlib.Core.Path.{_≡_, refl, sym, ap, _∙_, subst}
-use mathlib.Core.Bool.{Bool, true, false, cond}
+use Prim.Native.Nat.{ℕ, suc, _+_, _-_, _*_, _≤_}
+use mathlib.Core.Path.{_≡_, refl, sym, ap, _∙_}
 use mathlib.Core.List.{List, [], _∷_, _++_, append-assoc}
 use native.Mathlib.Omega.{arith}
-use lib.Dec.{leb}
 use lib.ListN.{length, take, drop, length-append, length-drop, take-append-drop}
 use lib.Seq.{take-take, take-at, take-append-seam, drop-at, length-take-le, drop-drop}
 use borrow.Author.Tests.{le-leb}
@@ -15,7 +13,7 @@ use Rattle.runfile.specs.File.{RunFile}
 use Rattle.bench.specs.Layout.{slotsIn, putEntries, Becomes}
 use Rattle.bench.specs.Promise.{Gives, Finishes}
 use Rattle.bench.specs.Run.{Outcome, tableSize, tableAt, finished}
-use Rattle.bench.specs.RunLaws.{Logged, put-same-length}
+use Rattle.bench.specs.RunLaws.{Logged}
 use Rattle.bench.specs.State.{State}
 use Rattle.bench.specs.declared.Bench.{Bench}
 

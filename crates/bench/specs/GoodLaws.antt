@@ -2,20 +2,18 @@
 use Prim.Native.Nat.{ℕ, zero, suc, _+_, _-_, _*_, _≤_, _<_}
 use mathlib.Core.Path.{_≡_, refl, sym, ap, _∙_, subst}
 use mathlib.Core.Bool.{Bool, true, false, cond}
-use mathlib.Core.List.{List, [], _∷_, _++_, append-assoc, append-nil}
+use mathlib.Core.List.{List, [], _∷_, append-assoc, append-nil}
 use native.Mathlib.Omega.{arith}
 use lib.Dec.{ltb}
 use lib.ListN.{length, getD, take, drop, replicate, length-replicate, getD-replicate, length-drop, List·getD-eq-default}
 use lib.Seq.{ext-getD, getD-take, getD-drop, length-take-le}
 use native.Mathlib.Decide.{decLt}
-use borrow.Author.Tests.{ltb-true, le-ltb, lt-ltb}
+use borrow.Author.Tests.{le-ltb, lt-ltb}
 use Rattle.log.specs.Encode.{listOf}
-use Rattle.log.specs.EncodeLaws.{listOf-length, listOf-getD}
-use Rattle.queue.specs.Stages.{isIdle}
-use Rattle.runfile.specs.AccessLaws.{good-access}
+use Rattle.log.specs.EncodeLaws.{listOf-getD}
 use Rattle.runfile.specs.Encode.{InRanges, Bytes}
-use Rattle.runfile.specs.File.{RunFile, good, fileOf, readingOf, shapeOf, recordIn, processesIn, callsIn, firstLengths, firstCalls, whoAt}
-use Rattle.runfile.specs.GoodLaws.{good-passes, shares-length, all-calls-length}
+use Rattle.runfile.specs.File.{RunFile, good, fileOf, readingOf, shapeOf, recordIn, processesIn, callsIn, stepsIn, stepPlace, firstLengths, firstCalls}
+use Rattle.runfile.specs.GoodLaws.{good-passes, shares-length, all-calls-length, schedule-length}
 use Rattle.runfile.specs.RangeLaws.{good-ranges, calls-most}
 use Rattle.runfile.specs.ReadingLaws.{reading-good, reading-refused}
 use Rattle.runfile.specs.declared.Call.{Call}
@@ -25,13 +23,13 @@ use Rattle.bench.specs.ClosingLaws.{schedule-steps}
 use Rattle.bench.specs.EntriesLaws.{entries-most}
 use Rattle.bench.specs.FinishLaws.{finished-gives}
 use Rattle.bench.specs.Induction.{played, closingStep, play-keeps, closed-keeps}
-use Rattle.bench.specs.Layout.{slotsOf, slotsIn, stateIn, Becomes, Counted}
+use Rattle.bench.specs.Layout.{slotsOf, slotsIn, stateIn, Becomes, aim, Aimed, Counted, ToPlay, ToClose}
 use Rattle.bench.specs.Promise.{Gives, Ran, Finishes, Ends}
 use Rattle.bench.specs.Run.{Outcome, play, lowest, close, closed, closingSteps, tableSize, refusal, finished, ranAs, outcome, runOf}
-use Rattle.bench.specs.RunLaws.{bare, later, act-later, turn-later, Logged, act-logged, turn-logged, becomes-next}
+use Rattle.bench.specs.RunLaws.{bare, later, act-later, Logged, act-logged, turn-logged, becomes-next}
 use Rattle.bench.specs.State.{State, fresh, nobody, processAt, scripted, startBench, start}
 use Rattle.bench.specs.Turn.{act, turn}
-use Rattle.bench.specs.TurnLaws.{counted-act, counted-turn}
+use Rattle.bench.specs.TurnLaws.{counted-act, calls-aimed, counted-turn}
 use Rattle.bench.specs.declared.Bench.{Bench}
 use Rattle.bench.specs.declared.Process.{Process}
 use Rattle.bench.specs.declared.Queue.{Queue}
@@ -60,13 +58,13 @@ close-later W C (suc k) s = by-test (ltb (lowest (s .bench .processes)) 8) refl 
 abbrev Kept : ℕ → State → Type 0
 Kept n s = Logged 0 s × Counted (s .bench)
 
-turn-kept : (W C : ℕ) (calls : List Call) (n p : ℕ) (s : State) → Kept n s → Kept (suc n) (turn W C calls p s)
-turn-kept W C calls n p s h = (turn-logged 0 W C calls p s (h .0), counted-turn W C calls p s (h .1))
+turn-kept : (W C : ℕ) (calls : List Call) → Aimed calls → (n p : ℕ) (s : State) → Kept n s → Kept (suc n) (turn W C calls p s)
+turn-kept W C calls aimed n p s h = (turn-logged 0 W C calls p s (h .0), counted-turn W C calls aimed p s (h .1))
 
 closing-kept : (W C n : ℕ) (s : State) → lowest (s .bench .processes) < 8 → Kept n s → Kept (suc n) (closingStep W C s)
 closing-kept W C n s l h =
     let p = lowest (s .bench .processes) in
-    (act-logged 0 W C p (processAt (s .bench) p) s (h .0), counted-act W C p (processAt (s .bench) p) s (h .1) (h .1 .back p))
+    (act-logged 0 W C p (processAt (s .bench) p) s (h .0), counted-act W C p (processAt (s .bench) p) s (h .1) (h .1 .back p) (h .1 .aims p))
 
 -- at the start all counts are 0
 pub start-counted : (shares : List ℕ) → Counted (startBench shares)
@@ -76,22 +74,26 @@ start-counted shares = record {
   entries = omega arith;
   gone = omega arith;
   resets = λ q. all q (decLt q 8);
-  back = λ p. idle p (decLt p 8);
+  back = λ p. idle p (decLt p 8) .0;
+  aims = λ p. idle p (decLt p 8) .1;
 }
   where
     all : (q : ℕ) → Dec (q < 8) → getD (replicate 8 fresh) q fresh .resets ≤ 0
     all q (yes h) = subst (λ (m : Queue). m .resets ≤ 0) (sym (getD-replicate 8 q fresh fresh h)) (omega arith)
     all q (no h) = subst (λ (m : Queue). m .resets ≤ 0) (sym (List·getD-eq-default (replicate 8 fresh) fresh {n = q} (omega arith))) (omega arith)
 
-    idle : (p : ℕ) → Dec (p < 8) → getD (listOf 8 (scripted shares)) p nobody .back ≤ 0
-    idle p (yes h) = subst (λ (r : Process). r .back ≤ 0) (sym (listOf-getD 8 (scripted shares) nobody p h)) (omega arith)
-    idle p (no h) = subst (λ (r : Process). r .back ≤ 0) (sym (List·getD-eq-default (listOf 8 (scripted shares)) nobody {n = p} (omega arith))) (omega arith)
+    Waits : Process → Type 0
+    Waits r = (r .back ≤ 0) × (aim (r .call) < 8)
 
-played-kept : (f : RunFile) → Kept 0 (played f)
-played-kept f = play-keeps Kept (f .width) (f .size) (f .calls) (turn-kept (f .width) (f .size) (f .calls)) (f .schedule) 0 (start f) (refl, start-counted (f .shares))
+    idle : (p : ℕ) → Dec (p < 8) → Waits (getD (listOf 8 (scripted shares)) p nobody)
+    idle p (yes h) = subst Waits (sym (listOf-getD 8 (scripted shares) nobody p h)) (omega arith, omega arith)
+    idle p (no h) = subst Waits (sym (List·getD-eq-default (listOf 8 (scripted shares)) nobody {n = p} (omega arith))) (omega arith, omega arith)
 
-closed-kept : (f : RunFile) → Kept 0 (closed f)
-closed-kept f = closed-keeps f Kept (turn-kept (f .width) (f .size) (f .calls)) (closing-kept (f .width) (f .size)) (refl, start-counted (f .shares)) .holds
+played-kept : (f : RunFile) → Aimed (f .calls) → Kept 0 (played f)
+played-kept f aimed = play-keeps Kept (f .width) (f .size) (f .calls) (turn-kept (f .width) (f .size) (f .calls) aimed) (f .schedule) 0 (start f) (refl, start-counted (f .shares))
+
+closed-kept : (f : RunFile) → Aimed (f .calls) → Kept 0 (closed f)
+closed-kept f aimed = closed-keeps f Kept (turn-kept (f .width) (f .size) (f .calls) aimed) (closing-kept (f .width) (f .size)) (refl, start-counted (f .shares)) .holds
 
 -- a refusal gives what is promised of it
 pub refusal-gives : (o : Outcome) (n : ℕ) (buffer : List ℕ) (written : ℕ) (report table : List ℕ) → o ≡ refusal n
@@ -113,11 +115,6 @@ slots-start C h = λ i. row 0 (omega arith) i ∷ row 1 (omega arith) i ∷ row 
   where
     row : (q : ℕ) → q < 8 → slotsOf C (replicate 512 0) q ≡ replicate C 0
     row q k = zeros C (64 * q) 512 (omega arith)
-
--- the values of a function that gives a list's elements are the list
-same-list : (l : List ℕ) (g : ℕ → ℕ) → ((k : ℕ) → k < length l → g k ≡ getD l k 0) → listOf (length l) g ≡ l
-same-list [] g h = refl
-same-list (x ∷ l) g h = λ i. h 0 (omega arith) i ∷ same-list l (λ k. g (suc k)) (λ k m. h (suc k) (omega arith)) i
 
 -- of the bytes of a good file
 module _ (s : List ℕ) (bytes : Bytes s) (shape : Shape) (e : readingOf (fileOf s) ≡ Good shape) where
@@ -147,14 +144,14 @@ module _ (s : List ℕ) (bytes : Bytes s) (shape : Shape) (e : readingOf (fileOf
       ap (λ (x : Shape). firstCalls s (x .processes) (x .calls)) is-shape
       ∙ ap (λ (n : ℕ). firstCalls s n (length (f .calls))) processes ∙ ap (firstCalls s (processesIn s)) calls
 
-  schedule-is : listOf (shape .steps) (whoAt s (shape .processes) (shape .calls)) ≡ f .schedule
-  schedule-is =
-      ap (λ (x : Shape). listOf (x .steps) (whoAt s (x .processes) (x .calls))) is-shape
-      ∙ same-list (f .schedule) (whoAt s (length (f .shares)) (length (f .calls))) (good-access s f is-good .who)
+  aimed : Aimed (f .calls)
+  aimed = calls-aimed s (processesIn s) (callsIn s) (omega (arith, in-ranges .processes, processes))
 
-  pub who-below : (k : ℕ) → k < shape .steps → whoAt s (shape .processes) (shape .calls) k < 8
-  who-below = subst (λ (x : Shape). (k : ℕ) → k < x .steps → whoAt s (x .processes) (x .calls) k < 8) (sym is-shape)
-      (λ k h. omega (arith, good-access s f is-good .who k h, in-ranges .schedule k h, in-ranges .processes))
+  steps : shape .steps ≡ stepsIn s
+  steps = ap (λ (x : Shape). x .steps) is-shape ∙ schedule-length s (good-passes s f is-good .0)
+
+  pub few-processes : shape .processes ≤ 8
+  few-processes = omega (arith, in-ranges .processes, ap (λ (x : Shape). x .processes) is-shape)
 
   abbrev W : ℕ
   W = shape .width
@@ -173,85 +170,104 @@ module _ (s : List ℕ) (bytes : Bytes s) (shape : Shape) (e : readingOf (fileOf
     log = [];
   }
 
-  module _ (b₀ : Bench) (d : b₀ ≡ startBench (firstLengths s (shape .processes))) where
-    pub starts-counted : Counted b₀
-    starts-counted = subst Counted (sym d) (start-counted (firstLengths s (shape .processes)))
+  module _ (from : ℕ) (place : from ≡ stepPlace (shape .processes) (shape .calls) 0) where
+    at : from ≡ stepPlace (processesIn s) (callsIn s) 0
+    at = place ∙ ap (λ (x : Shape). stepPlace (x .processes) (x .calls) 0) is-shape ∙ ap (λ (n : ℕ). stepPlace n (length (f .calls)) 0) processes ∙ ap (λ (n : ℕ). stepPlace (processesIn s) n 0) calls
 
-    pub starts-at-0 : b₀ .steps ≡ 0
-    starts-at-0 = ap (λ (x : Bench). x .steps) d
+    pub schedule-fits : from + shape .steps ≤ length s
+    schedule-fits = omega (arith, at, steps, good-passes s f is-good .0 .whole)
 
-    pub few-steps : shape .steps ≤ 4096
-    few-steps = omega (arith, in-ranges .steps, ap (λ (x : Shape). x .steps) is-shape)
+    -- the part of the file that the program plays is the schedule
+    abbrev schedule : List ℕ
+    schedule = take (from + shape .steps - from) (drop from s)
 
-    plays : play W C (firstCalls s (shape .processes) (shape .calls)) (listOf (shape .steps) (whoAt s (shape .processes) (shape .calls))) (stateIn C b₀ (replicate 512 0)) ≡ played f
-    plays =
-        ap (λ (x : State). play W C (firstCalls s (shape .processes) (shape .calls)) (listOf (shape .steps) (whoAt s (shape .processes) (shape .calls))) x) (starts b₀ d)
-        ∙ ap (λ (l : List Call). play W C l (listOf (shape .steps) (whoAt s (shape .processes) (shape .calls))) (start f)) calls-are
-        ∙ ap (λ (l : List ℕ). play W C (f .calls) l (start f)) schedule-is
-        ∙ ap (λ (x : Shape). play (x .width) (x .size) (f .calls) (f .schedule) (start f)) is-shape
+    schedule-is : schedule ≡ f .schedule
+    schedule-is = let n : from + shape .steps - from ≡ stepsIn s = omega (arith, steps) in ap (λ (k : ℕ). take k (drop from s)) n ∙ ap (λ (k : ℕ). take (stepsIn s) (drop k s)) at
 
-    module _ (log₀ : List ℕ) (b₁ : Bench) (flat₁ log₁ : List ℕ)
-        (g : Becomes C (b₀ .entries) log₀ (play W C (firstCalls s (shape .processes) (shape .calls)) (listOf (shape .steps) (whoAt s (shape .processes) (shape .calls))) (stateIn C b₀ (replicate 512 0))) b₁ flat₁ log₁) where
-      becomes-played : Becomes C 0 log₀ (played f) b₁ flat₁ log₁
-      becomes-played = subst (λ (n : ℕ). Becomes C n log₀ (played f) b₁ flat₁ log₁) (ap (λ (x : Bench). x .entries) d) (subst (λ (x : State). Becomes C (b₀ .entries) log₀ x b₁ flat₁ log₁) plays g)
+    below : (k : ℕ) → k < length schedule → getD schedule k 0 < 8
+    below = subst (λ (l : List ℕ). (k : ℕ) → k < length l → getD l k 0 < 8) (sym schedule-is) (λ k h. omega (arith, in-ranges .schedule k h, in-ranges .processes))
 
-      pub played-counted : Counted b₁
-      played-counted = subst Counted (sym (becomes-played .bench)) (played-kept f .1)
+    module _ (b₀ : Bench) (d : b₀ ≡ startBench (firstLengths s (shape .processes))) where
+      pub to-play : (flat : List ℕ) → length flat ≡ 512 → ToPlay shape schedule b₀ flat
+      to-play flat whole = record {
+        counted = subst Counted (sym d) (start-counted (firstLengths s (shape .processes)));
+        few = omega (arith, ap (λ (x : Bench). x .steps) d, ap length schedule-is, in-ranges .steps);
+        all-slots = whole;
+        processes = few-processes;
+        below = below;
+      }
 
-      pub played-few : b₁ .steps ≤ 4096
-      played-few = omega (arith, ap (λ (x : Bench). x .steps) (becomes-played .bench), schedule-steps f, in-ranges .steps)
+      plays : play W C (firstCalls s (shape .processes) (shape .calls)) schedule (stateIn C b₀ (replicate 512 0)) ≡ played f
+      plays =
+          ap (λ (x : State). play W C (firstCalls s (shape .processes) (shape .calls)) schedule x) (starts b₀ d)
+          ∙ ap (λ (l : List Call). play W C l schedule (start f)) calls-are
+          ∙ ap (λ (l : List ℕ). play W C (f .calls) l (start f)) schedule-is
+          ∙ ap (λ (x : Shape). play (x .width) (x .size) (f .calls) (f .schedule) (start f)) is-shape
 
-      module _ (b₂ : Bench) (flat₂ log₂ : List ℕ) (k : Becomes C (b₁ .entries) log₁ (close W C closingSteps (stateIn C b₁ flat₁)) b₂ flat₂ log₂) where
-        pub becomes-closed : Becomes C 0 log₀ (closed f) b₂ flat₂ log₂
-        unfolding closed
-        becomes-closed =
-            subst (λ (x : Shape). Becomes C 0 log₀ (close (x .width) (x .size) closingSteps (played f)) b₂ flat₂ log₂) is-shape
-            (becomes-next C 0 (close W C closingSteps) (close-later W C closingSteps) (played f) log₀ b₁ flat₁ log₁
-            (played-kept f .0) becomes-played b₂ flat₂ log₂ k)
+      module _ (log₀ : List ℕ) (b₁ : Bench) (flat₁ log₁ : List ℕ)
+          (g : Becomes C (b₀ .entries) log₀ (play W C (firstCalls s (shape .processes) (shape .calls)) schedule (stateIn C b₀ (replicate 512 0))) b₁ flat₁ log₁) where
+        becomes-played : Becomes C 0 log₀ (played f) b₁ flat₁ log₁
+        becomes-played = subst (λ (n : ℕ). Becomes C n log₀ (played f) b₁ flat₁ log₁) (ap (λ (x : Bench). x .entries) d) (subst (λ (x : State). Becomes C (b₀ .entries) log₀ x b₁ flat₁ log₁) plays g)
 
-        closed-counted : Counted b₂
-        closed-counted = subst Counted (sym (becomes-closed .bench)) (closed-kept f .1)
+        pub to-close : length flat₁ ≡ 512 → ToClose shape b₁ flat₁
+        to-close whole = record {
+          counted = subst Counted (sym (becomes-played .bench)) (played-kept f aimed .1);
+          few = omega (arith, ap (λ (x : Bench). x .steps) (becomes-played .bench), schedule-steps f, in-ranges .steps);
+          all-slots = whole;
+          processes = few-processes;
+        }
 
-        entries-few : length (closed f .log) ≤ length (f .calls)
-        entries-few = omega (arith, entries-most f, in-ranges .count)
+        module _ (b₂ : Bench) (flat₂ log₂ : List ℕ) (k : Becomes C (b₁ .entries) log₁ (close W C closingSteps (stateIn C b₁ flat₁)) b₂ flat₂ log₂) where
+          pub becomes-closed : Becomes C 0 log₀ (closed f) b₂ flat₂ log₂
+          unfolding closed
+          becomes-closed =
+              subst (λ (x : Shape). Becomes C 0 log₀ (close (x .width) (x .size) closingSteps (played f)) b₂ flat₂ log₂) is-shape
+              (becomes-next C 0 (close W C closingSteps) (close-later W C closingSteps) (played f) log₀ b₁ flat₁ log₁
+              (played-kept f aimed .0) becomes-played b₂ flat₂ log₂ k)
 
-        counts : b₂ .entries ≡ length (closed f .log)
-        counts = let z : 0 + length (closed f .log) ≡ length (closed f .log) = omega arith in ap (λ (x : Bench). x .entries) (becomes-closed .bench) ∙ closed-kept f .0 ∙ z
+          closed-counted : Counted b₂
+          closed-counted = subst Counted (sym (becomes-closed .bench)) (closed-kept f aimed .1)
 
-        pub ends : (buffer : List ℕ) → length flat₂ ≡ 512 → length log₂ ≡ 3077 → 5 + 12 * shape .calls ≤ length buffer → Ends shape b₂ flat₂ log₂ buffer
-        ends buffer l m room =
-            let all = ap (λ (x : Shape). x .calls) is-shape in
-            record {
-              counted = closed-counted;
-              processes = omega (arith, in-ranges .processes, ap (λ (x : Shape). x .processes) is-shape);
-              size = small;
-              all-slots = l;
-              whole-log = m;
-              entries = omega (arith, counts, entries-few, calls-most f in-ranges);
-              room = omega (arith, counts, entries-few);
-            }
+          entries-few : length (closed f .log) ≤ length (f .calls)
+          entries-few = omega (arith, entries-most f, in-ranges .count)
 
-        ran : (buffer : List ℕ) → 5 + 12 * shape .calls ≤ length buffer → runOf s (length buffer) ≡ ranAs f (closed f)
-        unfolding runOf outcome
-        ran buffer room =
-            let all = ap (λ (x : Shape). x .calls) is-shape in
-            ap (outcome (length buffer)) is-good
-            ∙ ap (λ (t : Bool). cond t (refusal 8) (ranAs f (closed f))) (le-ltb (length buffer) (5 + 12 * length (f .calls)) (omega arith))
+          counts : b₂ .entries ≡ length (closed f .log)
+          counts = let z : 0 + length (closed f .log) ≡ length (closed f .log) = omega arith in ap (λ (x : Bench). x .entries) (becomes-closed .bench) ∙ closed-kept f aimed .0 ∙ z
 
-        same-flag : closed f .bench .refused ≡ b₂ .refused
-        same-flag = ap (λ (x : Bench). x .refused) (sym (becomes-closed .bench))
+          pub ends : (buffer : List ℕ) → length flat₂ ≡ 512 → length log₂ ≡ 3077 → 5 + 12 * shape .calls ≤ length buffer → Ends shape b₂ flat₂ log₂ buffer
+          ends buffer l m room =
+              let all = ap (λ (x : Shape). x .calls) is-shape in
+              record {
+                counted = closed-counted;
+                processes = few-processes;
+                size = small;
+                all-slots = l;
+                whole-log = m;
+                entries = omega (arith, counts, entries-few, calls-most f in-ranges);
+                room = omega (arith, counts, entries-few);
+              }
 
-        pub gives-9 : (buffer : List ℕ) → 5 + 12 * shape .calls ≤ length buffer → b₂ .refused ≡ true → runOf s (length buffer) ≡ refusal 9
-        gives-9 buffer room z = ran buffer room ∙ ap (λ (t : Bool). cond t (refusal 9) (finished f (closed f))) (same-flag ∙ z)
+          ran : (buffer : List ℕ) → 5 + 12 * shape .calls ≤ length buffer → runOf s (length buffer) ≡ ranAs f (closed f)
+          unfolding runOf outcome
+          ran buffer room =
+              let all = ap (λ (x : Shape). x .calls) is-shape in
+              ap (outcome (length buffer)) is-good
+              ∙ ap (λ (t : Bool). cond t (refusal 8) (ranAs f (closed f))) (le-ltb (length buffer) (5 + 12 * length (f .calls)) (omega arith))
 
-        pub gives-0 : (buffer : List ℕ) (written : ℕ) (buffer′ report table : List ℕ) → 5 + 12 * shape .calls ≤ length buffer → 3077 ≤ length log₀ → b₂ .refused ≡ false
-            → Finishes (shape .processes) C b₂ flat₂ log₂ buffer written buffer′ report table → Ran s buffer written buffer′ report table
-        gives-0 buffer written buffer′ report table room long z h =
-            subst (λ (o : Outcome). Gives o buffer written buffer′ report table)
-            (sym (ran buffer room ∙ ap (λ (t : Bool). cond t (refusal 9) (finished f (closed f))) (same-flag ∙ z)))
-            (finished-gives f (closed f) log₀ b₂ flat₂ log₂ buffer written buffer′ report table
-            (subst (λ (x : Shape). Becomes (x .size) 0 log₀ (closed f) b₂ flat₂ log₂) is-shape becomes-closed) (closed-kept f .0) (omega (arith, entries-few, calls-most f in-ranges))
-            (subst (λ (x : Shape). Finishes (x .processes) (x .size) b₂ flat₂ log₂ buffer written buffer′ report table) is-shape h))
+          same-flag : closed f .bench .refused ≡ b₂ .refused
+          same-flag = ap (λ (x : Bench). x .refused) (sym (becomes-closed .bench))
+
+          pub gives-9 : (buffer : List ℕ) → 5 + 12 * shape .calls ≤ length buffer → b₂ .refused ≡ true → runOf s (length buffer) ≡ refusal 9
+          gives-9 buffer room z = ran buffer room ∙ ap (λ (t : Bool). cond t (refusal 9) (finished f (closed f))) (same-flag ∙ z)
+
+          pub gives-0 : (buffer : List ℕ) (written : ℕ) (buffer′ report table : List ℕ) → 5 + 12 * shape .calls ≤ length buffer → 3077 ≤ length log₀ → b₂ .refused ≡ false
+              → Finishes (shape .processes) C b₂ flat₂ log₂ buffer written buffer′ report table → Ran s buffer written buffer′ report table
+          gives-0 buffer written buffer′ report table room long z h =
+              subst (λ (o : Outcome). Gives o buffer written buffer′ report table)
+              (sym (ran buffer room ∙ ap (λ (t : Bool). cond t (refusal 9) (finished f (closed f))) (same-flag ∙ z)))
+              (finished-gives f (closed f) log₀ b₂ flat₂ log₂ buffer written buffer′ report table
+              (subst (λ (x : Shape). Becomes (x .size) 0 log₀ (closed f) b₂ flat₂ log₂) is-shape becomes-closed) (closed-kept f aimed .0) (omega (arith, entries-few, calls-most f in-ranges))
+              (subst (λ (x : Shape). Finishes (x .processes) (x .size) b₂ flat₂ log₂ buffer written buffer′ report table) is-shape h))
 
   pub gives-8 : (buffer : List ℕ) → length buffer < 5 + 12 * shape .calls → runOf s (length buffer) ≡ refusal 8
   unfolding runOf outcome

@@ -1,5 +1,5 @@
 -- How a state lies in the program's arrays: all slots in one row of 64 for each of eight queues, and the log as its bytes.
-use Prim.Native.Nat.{ℕ, zero, suc, _+_, _*_, _≤_}
+use Prim.Native.Nat.{ℕ, suc, _+_, _*_, _≤_, _<_}
 use mathlib.Core.Path.{_≡_}
 use mathlib.Core.Bool.{_||_}
 use mathlib.Core.List.{List, [], _∷_}
@@ -10,6 +10,9 @@ use Rattle.queue.specs.Step.{stored, steppedOn}
 use Rattle.queue.specs.declared.Stage.{Stage}
 use Rattle.queue.specs.declared.Stepped.{Stepped}
 use Rattle.queue.specs.declared.Word.{Word}
+use Rattle.runfile.specs.declared.Call.{Call}
+use Rattle.runfile.specs.declared.Call.the-variants.{Push, Pop, Take, Wrong}
+use Rattle.runfile.specs.declared.Shape.{Shape}
 use Rattle.bench.specs.State.{State, queueAt, processAt}
 use Rattle.bench.specs.Moment.{ended, goneRound}
 use Rattle.bench.specs.Turn.{queueAfter, processAfter, isRefused, entriesIn, count}
@@ -45,7 +48,18 @@ pub record Becomes (C n : ℕ) (log : List ℕ) (s : State) (b′ : Bench) (flat
   pub slots : slotsIn C flat′ ≡ s .slots
   pub bytes : log′ ≡ putEntries n (s .log) log
 
--- there are eight queues and processes; the counts are at most the number of steps, and so is each B2
+-- the queue of a top pop; the other calls are on their process's own queue, and have 0 here
+abbrev pub aim : Call → ℕ
+aim (Push node) = 0
+aim Pop = 0
+aim (Take q) = q
+aim (Wrong number) = 0
+
+-- each top pop of these calls is of one of eight queues
+abbrev pub Aimed : List Call → Type 0
+Aimed calls = (k : ℕ) → aim (getD calls k Pop) < 8
+
+-- there are eight queues and processes; the counts are at most the number of steps, and so is each B2; each top pop is of one of the queues
 pub record Counted (b : Bench) : Type 0 where
   pub queues : length (b .queues) ≡ 8
   pub processes : length (b .processes) ≡ 8
@@ -53,6 +67,21 @@ pub record Counted (b : Bench) : Type 0 where
   pub gone : b .gone ≤ b .steps
   pub resets : (q : ℕ) → queueAt b q .resets ≤ b .steps
   pub back : (p : ℕ) → processAt b p .back ≤ b .steps
+  pub aims : (p : ℕ) → aim (processAt b p .call) < 8
+
+-- where the loop over a schedule begins, and where the closing does
+pub record ToPlay (shape : Shape) (schedule : List ℕ) (b : Bench) (flat : List ℕ) : Type 0 where
+  pub counted : Counted b
+  pub few : b .steps + length schedule ≤ 4144
+  pub all-slots : length flat ≡ 512
+  pub processes : shape .processes ≤ 8
+  pub below : (k : ℕ) → k < length schedule → getD schedule k 0 < 8
+
+pub record ToClose (shape : Shape) (b : Bench) (flat : List ℕ) : Type 0 where
+  pub counted : Counted b
+  pub few : b .steps ≤ 4096
+  pub all-slots : length flat ≡ 512
+  pub processes : shape .processes ≤ 8
 
 -- what step n of process p on queue q changes: r, before and owner are the records of the process, of the queue and of the queue's owner
 pub record Moves (W C p q n entries : ℕ) (r : Process) (before : Queue) (owner : Process) (flat log : List ℕ) (m : Moved) (flat′ log′ : List ℕ) : Type 0 where

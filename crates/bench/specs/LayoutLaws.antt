@@ -1,16 +1,14 @@
 -- Laws of the row of slots and of entries put into a log.
-use Prim.Native.Nat.{ℕ, zero, suc, _+_, _-_, _*_, _≤_, _<_}
+use Prim.Native.Nat.{ℕ, suc, _+_, _-_, _*_, _≤_, _<_}
 use mathlib.Core.Path.{_≡_, refl, sym, ap, _∙_, subst}
-use mathlib.Core.Bool.{Bool, true, false, cond, _||_}
+use mathlib.Core.Bool.{Bool, true, false, _||_}
 use mathlib.Core.List.{List, [], _∷_, _++_}
 use native.Mathlib.Omega.{arith}
 use native.Mathlib.Decide.{decLt, ℕ-discrete}
-use native.Mathlib.Numerals.{add-one}
-use lib.ListN.{length, getD, take, drop, set, length-set, length-take, length-drop, length-append, List·getD-append, List·getD-eq-default}
+use lib.ListN.{length, getD, take, drop, set, length-set, length-drop, List·getD-append, List·getD-eq-default}
 use lib.Seq.{getD-take, getD-drop, getD-append-add, getD-set-same, getD-set-other, set-out, set-getD, ext-getD, length-take-le}
-use borrow.Author.Tests.{lt-ltb, le-ltb}
 use borrow.Rule.Slice.PartMut.{putMid, same-len-mid}
-use Rattle.log.specs.Encode.{listOf, entryBytes, putAt}
+use Rattle.log.specs.Encode.{entryBytes, putAt}
 use Rattle.log.specs.EncodeLaws.{listOf-length, listOf-getD}
 use Rattle.log.specs.declared.Entry.{Entry}
 use Rattle.runfile.specs.declared.Call.{Call}
@@ -24,11 +22,11 @@ use Rattle.queue.specs.declared.Stepped.{Stepped}
 use Rattle.queue.specs.declared.Store.{Store}
 use Rattle.queue.specs.declared.Store.the-variants as store
 use Rattle.queue.specs.declared.Word.{Word}
-use Rattle.bench.specs.Layout.{slotsOf, slotsIn, stateIn, StepsIn, putEntries, Becomes, Counted, Moves, movedBench}
+use Rattle.bench.specs.Layout.{slotsOf, slotsIn, stateIn, StepsIn, putEntries, Becomes, aim, Aimed, Counted, Moves, movedBench}
 use Rattle.bench.specs.Moment.{queueOf, ended, goneRound}
 use Rattle.bench.specs.State.{queueAt, processAt}
 use Rattle.bench.specs.Turn.{queueAfter, processAfter, entriesIn, benchAfter, act, idleStep, ready, turnAs, turn}
-use Rattle.bench.specs.TurnLaws.{ready-back, count-most, gone-most}
+use Rattle.bench.specs.TurnLaws.{ready-back, ready-aim, on-queue, count-most, gone-most}
 use Rattle.bench.specs.declared.Bench.{Bench}
 use Rattle.bench.specs.declared.Ended.{Ended}
 use Rattle.bench.specs.declared.Process.{Process}
@@ -191,6 +189,9 @@ module _ (calls : List Call) (p : ℕ) (b : Bench) (w r : Process) (e : w ≡ pr
 
   pub back-counted : Counted b → r .back ≤ b .steps
   back-counted h = omega (arith, h .back p, ready-back calls (b .steps) (processAt b p), ap (λ (x : Process). x .back) now)
+
+  pub queue-counted : Aimed calls → p < 8 → Counted b → queueOf p (r .call) < 8
+  queue-counted aimed l h = on-queue p (r .call) l (subst (λ (x : Process). aim (x .call) < 8) (sym now) (ready-aim calls aimed (b .steps) (processAt b p) (h .aims p)))
 
   module _ (W C : ℕ) (flat log : List ℕ) (b′ : Bench) where
     pub turn-idles : isIdle (r .stage) ≡ true → b′ ≡ idleStep b → Becomes C (b .entries) log (turn W C calls p (stateIn C b flat)) b′ flat log

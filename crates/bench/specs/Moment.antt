@@ -9,7 +9,6 @@ use Rattle.log.specs.declared.What.the-variants as what
 use Rattle.queue.specs.Stages.{pastB2, popsSlot}
 use Rattle.queue.specs.declared.Next.{Next}
 use Rattle.queue.specs.declared.Next.the-variants.{Going, Done, Node, Nil, Full, Refused}
-use Rattle.queue.specs.declared.Stage.{Stage}
 use Rattle.runfile.specs.declared.Call.{Call}
 use Rattle.runfile.specs.declared.Call.the-variants.{Push, Pop, Take, Wrong}
 use Rattle.bench.specs.declared.Ended.{Ended}

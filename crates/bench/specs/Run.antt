@@ -1,7 +1,7 @@
 -- A whole run, from the bytes of its file and the length of the log buffer to everything that it gives.
 use Prim.Native.Nat.{ℕ, zero, suc, _+_, _*_, _/_, _%_}
-use mathlib.Core.Bool.{Bool, true, false, cond}
-use mathlib.Core.List.{List, [], _∷_, _++_}
+use mathlib.Core.Bool.{cond}
+use mathlib.Core.List.{List, [], _∷_}
 use lib.Dec.{ltb}
 use lib.ListN.{length, getD, replicate}
 use Rattle.log.specs.Encode.{logBytes, listOf}

@@ -1,8 +1,8 @@
 -- Laws of a whole run, as its loops take them: a state after so many steps, its log, and the closing by steps.
 use Prim.Native.Nat.{ℕ, zero, suc, _+_, _-_, _*_, _≤_, _<_}
 use mathlib.Core.Path.{_≡_, refl, sym, ap, _∙_, subst}
-use mathlib.Core.Bool.{Bool, true, false, cond, _&&_}
-use mathlib.Core.List.{List, [], _∷_, _++_, append-assoc, append-nil}
+use mathlib.Core.Bool.{Bool, true, false, cond}
+use mathlib.Core.List.{List, [], _∷_, _++_, append-nil}
 use native.Mathlib.Numerals.{add-one}
 use native.Mathlib.Omega.{arith}
 use borrow.Author.Tests.{leb-true, lt-ltb, le-ltb}
@@ -13,12 +13,13 @@ use Rattle.log.specs.Encode.{entryBytes, putAt}
 use Rattle.log.specs.declared.Entry.{Entry}
 use Rattle.queue.specs.Stages.{isIdle}
 use Rattle.runfile.specs.declared.Call.{Call}
-use Rattle.bench.specs.Layout.{slotsIn, stateIn, putEntries, Becomes, Counted}
+use Rattle.bench.specs.ClosingLaws.{lowest-busy}
+use Rattle.bench.specs.Layout.{stateIn, putEntries, Becomes, Aimed, Counted}
 use Rattle.bench.specs.LayoutLaws.{put-append}
 use Rattle.bench.specs.Run.{play, lowest, close}
 use Rattle.bench.specs.State.{State, processAt}
 use Rattle.bench.specs.Turn.{entriesIn, ready, stepping, ending, act, idle, turnAs, turn}
-use Rattle.bench.specs.TurnLaws.{either-way, count-is, counted-act, counted-turn}
+use Rattle.bench.specs.TurnLaws.{either-way, count-is, counted-turn}
 use Rattle.bench.specs.declared.Bench.{Bench}
 use Rattle.bench.specs.declared.Process.{Process}
 
@@ -149,18 +150,11 @@ pub along-start : (C : ℕ) (b : Bench) (flat log : List ℕ) → Counted b → 
 along-start C b flat log h = record { becomes = record { bench = refl; slots = refl; bytes = refl }; logged = omega arith; counted = h }
 
 module _ (W C n : ℕ) (log₀ : List ℕ) (s : State) (b : Bench) (flat log : List ℕ) (h : Along C n log₀ s b flat log) (b′ : Bench) (flat′ log′ : List ℕ) where
-  pub along-turn : (calls : List Call) (p : ℕ) → Becomes C (b .entries) log (turn W C calls p (stateIn C b flat)) b′ flat′ log′ → Along C n log₀ (turn W C calls p s) b′ flat′ log′
-  along-turn calls p g = record {
+  pub along-turn : (calls : List Call) → Aimed calls → (p : ℕ) → Becomes C (b .entries) log (turn W C calls p (stateIn C b flat)) b′ flat′ log′ → Along C n log₀ (turn W C calls p s) b′ flat′ log′
+  along-turn calls aimed p g = record {
     becomes = becomes-next C n (turn W C calls p) (turn-later W C calls p) s log₀ b flat log (h .logged) (h .becomes) b′ flat′ log′ g;
     logged = turn-logged n W C calls p s (h .logged);
-    counted = subst Counted (sym (g .bench)) (counted-turn W C calls p (stateIn C b flat) (h .counted));
-  }
-
-  pub along-act : (p : ℕ) (r : Process) → r .back ≤ b .steps → Becomes C (b .entries) log (act W C p r (stateIn C b flat)) b′ flat′ log′ → Along C n log₀ (act W C p r s) b′ flat′ log′
-  along-act p r k g = record {
-    becomes = becomes-next C n (act W C p r) (act-later W C p r) s log₀ b flat log (h .logged) (h .becomes) b′ flat′ log′ g;
-    logged = act-logged n W C p r s (h .logged);
-    counted = subst Counted (sym (g .bench)) (counted-act W C p r (stateIn C b flat) (h .counted) k);
+    counted = subst Counted (sym (g .bench)) (counted-turn W C calls aimed p (stateIn C b flat) (h .counted));
   }
 
 pub turn-steps : (W C : ℕ) (calls : List Call) (p : ℕ) (s : State) → turn W C calls p s .bench .steps ≡ s .bench .steps + 1
@@ -169,24 +163,24 @@ turn-steps W C calls p s = either-way (λ (x : State). x .bench .steps ≡ s .be
 
 -- the loop over the schedule, i steps on
 abbrev pub Played : ℕ → ℕ → ℕ → List Call → List ℕ → List ℕ → State → ℕ → Bench → List ℕ → List ℕ → Type 0
-Played W C n calls ps log₀ s₀ i b flat log = Along C n log₀ (play W C calls (take i ps) s₀) b flat log × (b .steps ≡ i)
+Played W C n calls ps log₀ s₀ i b flat log = Along C n log₀ (play W C calls (take i ps) s₀) b flat log × (b .steps ≡ s₀ .bench .steps + i)
 
 module _ (W C n : ℕ) (calls : List Call) (ps : List ℕ) (log₀ : List ℕ) (s₀ : State) (i : ℕ) (b : Bench) (flat log : List ℕ) where
-  pub played-next : (p : ℕ) (b′ : Bench) (flat′ log′ : List ℕ) → Played W C n calls ps log₀ s₀ i b flat log → i < length ps → p ≡ getD ps i 0
+  pub played-next : Aimed calls → (p : ℕ) (b′ : Bench) (flat′ log′ : List ℕ) → Played W C n calls ps log₀ s₀ i b flat log → i < length ps → p ≡ getD ps i 0
       → Becomes C (b .entries) log (turn W C calls p (stateIn C b flat)) b′ flat′ log′ → Played W C n calls ps log₀ s₀ (i + 1) b′ flat′ log′
-  played-next p b′ flat′ log′ h l e g = (
+  played-next aimed p b′ flat′ log′ h l e g = (
     subst (λ (x : State). Along C n log₀ x b′ flat′ log′) (ap (λ (q : ℕ). turn W C calls q (play W C calls (take i ps) s₀)) e ∙ sym (play-next W C calls ps i s₀ l))
-        (along-turn W C n log₀ (play W C calls (take i ps) s₀) b flat log (h .0) b′ flat′ log′ calls p g),
-    omega (arith, turn-steps W C calls p (stateIn C b flat), ap (λ (x : Bench). x .steps) (g .bench)),
+        (along-turn W C n log₀ (play W C calls (take i ps) s₀) b flat log (h .0) b′ flat′ log′ calls aimed p g),
+    omega (arith, turn-steps W C calls p (stateIn C b flat), ap (λ (x : Bench). x .steps) (g .bench), h .1),
   )
 
   pub played-all : Played W C n calls ps log₀ s₀ i b flat log → length ps ≤ i → Becomes C n log₀ (play W C calls ps s₀) b flat log
   played-all h l = subst (λ (qs : List ℕ). Becomes C n log₀ (play W C calls qs s₀) b flat log) (take-all i ps l) (h .0 .becomes)
 
-pub played-start : (W C : ℕ) (calls : List Call) (ps : List ℕ) (b : Bench) (flat log : List ℕ) → Counted b → b .steps ≡ 0
+pub played-start : (W C : ℕ) (calls : List Call) (ps : List ℕ) (b : Bench) (flat log : List ℕ) → Counted b
     → Played W C (b .entries) calls ps log (stateIn C b flat) 0 b flat log
 unfolding play
-played-start W C calls ps b flat log h e = (along-start C b flat log h, e)
+played-start W C calls ps b flat log h = (along-start C b flat log h, omega arith)
 
 -- the loop of the closing, i steps on
 abbrev pub Closing : ℕ → ℕ → ℕ → List ℕ → State → ℕ → Bench → List ℕ → List ℕ → Type 0
@@ -196,30 +190,39 @@ pub closing-start : (W C : ℕ) (b : Bench) (flat log : List ℕ) → Counted b 
 unfolding close
 closing-start W C b flat log h k = (along-start C b flat log h, omega arith)
 
-act-steps : (W C p : ℕ) (r : Process) (s : State) → act W C p r s .bench .steps ≡ s .bench .steps + 1
-unfolding act
-act-steps W C p r s = refl
+-- a half-done process begins no call: its turn is the next step of its call
+half-turn : (W C : ℕ) (calls : List Call) (p : ℕ) (s : State) → isIdle (processAt (s .bench) p .stage) ≡ false
+    → turn W C calls p s ≡ act W C p (processAt (s .bench) p) s
+unfolding turn turnAs
+half-turn W C calls p s e = rw (e, e) refl
 
 module _ (W C n : ℕ) (log₀ : List ℕ) (s₀ : State) (i : ℕ) (b : Bench) (flat log : List ℕ) (h : Closing W C n log₀ s₀ i b flat log) where
   same : b ≡ close W C i s₀ .bench
   same = h .0 .becomes .bench
 
-  pub closing-next : (p : ℕ) (r : Process) (b′ : Bench) (flat′ log′ : List ℕ) → p ≡ lowest (b .processes) → p < 8 → r ≡ processAt b p
-      → Becomes C (b .entries) log (act W C p r (stateIn C b flat)) b′ flat′ log′ → Closing W C n log₀ s₀ (i + 1) b′ flat′ log′
-  closing-next p r b′ flat′ log′ e l d g = (
-    subst (λ (x : State). Along C n log₀ x b′ flat′ log′) (sym step) (along-act W C n log₀ (close W C i s₀) b flat log (h .0) b′ flat′ log′ p r (omega (arith, h .0 .counted .back p, ap (λ (x : Process). x .back) d)) g),
-    omega (arith, act-steps W C p r (stateIn C b flat), ap (λ (x : Bench). x .steps) (g .bench)),
+  -- a schedule of the lowest half-done process alone is a step of the closing
+  pub closing-next : (calls : List Call) → Aimed calls → (p : ℕ) (b′ : Bench) (flat′ log′ : List ℕ) → p ≡ lowest (b .processes) → p < 8
+      → Becomes C (b .entries) log (play W C calls (p ∷ []) (stateIn C b flat)) b′ flat′ log′ → Closing W C n log₀ s₀ (i + 1) b′ flat′ log′
+  unfolding play
+  closing-next calls aimed p b′ flat′ log′ e l g = (
+    subst (λ (x : State). Along C n log₀ x b′ flat′ log′) (sym step) (along-turn W C n log₀ (close W C i s₀) b flat log (h .0) b′ flat′ log′ calls aimed p g),
+    omega (arith, turn-steps W C calls p (stateIn C b flat), ap (λ (x : Bench). x .steps) (g .bench)),
   )
     where
       at : p ≡ lowest (close W C i s₀ .bench .processes)
       at = e ∙ ap (λ (x : Bench). lowest (x .processes)) same
 
-      step : close W C (i + 1) s₀ ≡ act W C p r (close W C i s₀)
+      half : isIdle (processAt (close W C i s₀ .bench) p .stage) ≡ false
+      half =
+          subst (λ (q : ℕ). isIdle (processAt (close W C i s₀ .bench) q .stage) ≡ false) (sym at)
+          (lowest-busy (close W C i s₀ .bench .processes) (omega (arith, at, ap (λ (x : Bench). length (x .processes)) same, h .0 .counted .processes)))
+
+      step : close W C (i + 1) s₀ ≡ turn W C calls p (close W C i s₀)
       step =
           ap (λ (k : ℕ). close W C k s₀) (add-one i) ∙ close-next W C i s₀
           ∙ ap (λ (q : ℕ). cond (ltb q 8) (act W C q (processAt (close W C i s₀ .bench) q) (close W C i s₀)) (close W C i s₀)) (sym at)
           ∙ ap (λ (t : Bool). cond t (act W C p (processAt (close W C i s₀ .bench) p) (close W C i s₀)) (close W C i s₀)) (lt-ltb p 8 l)
-          ∙ ap (λ (x : Process). act W C p x (close W C i s₀)) (sym (d ∙ ap (λ (x : Bench). processAt x p) same))
+          ∙ sym (half-turn W C calls p (close W C i s₀) half)
 
   pub closing-early : lowest (b .processes) ≡ 8 → (k : ℕ) → i ≤ k → Becomes C n log₀ (close W C k s₀) b flat log
   closing-early e k l =

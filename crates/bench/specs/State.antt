@@ -1,12 +1,11 @@
 -- The state of a run, and its start.
-use Prim.Native.Nat.{ℕ, zero, suc, _+_}
+use Prim.Native.Nat.{ℕ, suc}
 use mathlib.Core.Bool.{false}
 use mathlib.Core.List.{List, []}
-use lib.ListN.{getD, take, set, replicate}
+use lib.ListN.{getD, take, replicate}
 use Rattle.log.specs.declared.Entry.{Entry}
 use Rattle.log.specs.Encode.{listOf}
 use Rattle.queue.specs.declared.Stage.the-variants.{Idle}
-use Rattle.queue.specs.declared.Word.{Word}
 use Rattle.runfile.specs.declared.Call.the-variants.{Push}
 use Rattle.runfile.specs.Check.{sum}
 use Rattle.runfile.specs.File.{RunFile}
@@ -35,26 +34,6 @@ queueAt b q = getD (b .queues) q fresh
 
 abbrev pub processAt : Bench → ℕ → Process
 processAt b p = getD (b .processes) p nobody
-
-abbrev pub withQueue : Bench → ℕ → Queue → Bench
-withQueue b q m = record {
-  queues = set (b .queues) q m;
-  processes = b .processes;
-  entries = b .entries;
-  steps = b .steps;
-  gone = b .gone;
-  refused = b .refused;
-}
-
-abbrev pub withProcess : Bench → ℕ → Process → Bench
-withProcess b p r = record {
-  queues = b .queues;
-  processes = set (b .processes) p r;
-  entries = b .entries;
-  steps = b .steps;
-  gone = b .gone;
-  refused = b .refused;
-}
 
 -- process p has its share of the calls: none from P on
 abbrev pub scripted : List ℕ → ℕ → Process

@@ -1,8 +1,8 @@
 -- Laws of one step: what it adds to the counts, and that these stay within the number of steps.
-use Prim.Native.Nat.{ℕ, zero, suc, _+_, _≤_, _<_}
-use mathlib.Core.Path.{_≡_, refl, sym, ap, _∙_, subst}
+use Prim.Native.Nat.{ℕ, _+_, _≤_, _<_}
+use mathlib.Core.Path.{_≡_, refl, sym, _∙_, subst}
 use mathlib.Core.Bool.{Bool, true, false, cond, _&&_, not, false≢true}
-use mathlib.Core.List.{List, [], _∷_, _++_}
+use mathlib.Core.List.{List}
 use native.Mathlib.Omega.{arith}
 use native.Mathlib.Decide.{decLt, ℕ-discrete}
 use borrow.Author.Tests.{ltb-true}
@@ -13,11 +13,11 @@ use Rattle.queue.specs.Stages.{isIdle, atB2}
 use Rattle.queue.specs.declared.Next.{Next}
 use Rattle.queue.specs.declared.Next.the-variants.{Going, Done, Node, Nil, Full, Refused}
 use Rattle.queue.specs.declared.Stepped.{Stepped}
-use Rattle.runfile.specs.CallLaws.{calls-length}
-use Rattle.runfile.specs.File.{firstCalls}
+use Rattle.runfile.specs.CallLaws.{calls-length, call-get}
+use Rattle.runfile.specs.File.{byteAt, two, callPlace, callOf, firstCalls}
 use Rattle.runfile.specs.declared.Call.{Call}
-use Rattle.runfile.specs.declared.Call.the-variants.{Pop}
-use Rattle.bench.specs.Layout.{Counted}
+use Rattle.runfile.specs.declared.Call.the-variants.{Push, Pop, Take, Wrong}
+use Rattle.bench.specs.Layout.{aim, Aimed, Counted}
 use Rattle.bench.specs.Moment.{isTake, queueOf, goneRound}
 use Rattle.bench.specs.State.{State, fresh, nobody, queueAt, processAt}
 use Rattle.bench.specs.Turn.{ready, processAfter, queueAfter, entriesIn, count, benchAfter, stepping, ending, act, idleStep, idle, turnAs, turn}
@@ -57,8 +57,9 @@ got P l i x d px pl j = split (ℕ-discrete j i) (decLt i (length l))
     split (yes e) (no h) = subst (λ (m : List _). P (getD m j d)) (sym (set-out l i x (omega arith))) (pl j)
     split (no e) h = subst P (sym (getD-set-other l i j x d e)) (pl j)
 
-pub counted-step : (b : Bench) (p q : ℕ) (r : Process) (o : Stepped) (over : Ended) → Counted b → r .back ≤ b .steps → Counted (benchAfter b p q r o over)
-counted-step b p q r o over h k = record {
+pub counted-step : (b : Bench) (p q : ℕ) (r : Process) (o : Stepped) (over : Ended) → Counted b → r .back ≤ b .steps → aim (r .call) < 8
+    → Counted (benchAfter b p q r o over)
+counted-step b p q r o over h k a = record {
   queues = length-set (b .queues) q (queueAfter (queueAt b q) o) ∙ h .queues;
   processes = length-set (b .processes) p (processAfter (b .steps) (queueAt b q .resets) r (o .next)) ∙ h .processes;
   entries = omega (arith, h .entries, count-most over);
@@ -69,13 +70,14 @@ counted-step b p q r o over h k = record {
   back = got (λ (m : Process). m .back ≤ b .steps + 1) (b .processes) p (processAfter (b .steps) (queueAt b q .resets) r (o .next)) nobody
       (either-way (λ (n : ℕ). n ≤ b .steps + 1) (atB2 (r .stage)) (λ e. omega arith) (λ e. omega arith))
       (λ j. omega (arith, h .back j));
+  aims = got (λ (m : Process). aim (m .call) < 8) (b .processes) p (processAfter (b .steps) (queueAt b q .resets) r (o .next)) nobody a (h .aims);
 }
 
-pub counted-act : (W C p : ℕ) (r : Process) (s : State) → Counted (s .bench) → r .back ≤ s .bench .steps → Counted (act W C p r s .bench)
+pub counted-act : (W C p : ℕ) (r : Process) (s : State) → Counted (s .bench) → r .back ≤ s .bench .steps → aim (r .call) < 8 → Counted (act W C p r s .bench)
 unfolding act
-counted-act W C p r s h k =
+counted-act W C p r s h k a =
     let o = stepping W C p r s in
-    counted-step (s .bench) p (queueOf p (r .call)) r o (ending p r (s .bench) (o .next)) h k
+    counted-step (s .bench) p (queueOf p (r .call)) r o (ending p r (s .bench) (o .next)) h k a
 
 pub counted-idle : (b : Bench) → Counted b → Counted (idleStep b)
 counted-idle b h = record {
@@ -85,6 +87,7 @@ counted-idle b h = record {
   gone = omega (arith, h .gone);
   resets = λ q. omega (arith, h .resets q);
   back = λ p. omega (arith, h .back p);
+  aims = h .aims;
 }
 
 -- a call that is begun is below the end of its script
@@ -100,9 +103,36 @@ past-calls file P n k h = List·getD-eq-default (firstCalls file P n) Pop {n = k
 pub ready-back : (calls : List Call) (n : ℕ) (r : Process) → ready calls n r .back ≡ r .back
 ready-back calls n r = either-way (λ (x : Process). x .back ≡ r .back) (isIdle (r .stage) && ltb (r .next) (r .stop)) (λ e. refl) (λ e. refl)
 
-pub counted-turn : (W C : ℕ) (calls : List Call) (p : ℕ) (s : State) → Counted (s .bench) → Counted (turn W C calls p s .bench)
+-- the calls of a file are on its queues
+call-aim : (P code argument : ℕ) → P ≤ 8 → aim (callOf P code argument) < 8
+call-aim P code argument h =
+    either-way on (eqb code 1) (λ e. either-way on (eqb argument 0) (λ d. omega arith) (λ d. omega arith))
+    (λ e. either-way on (eqb code 2) (λ d. either-way on (eqb argument 0) (λ i. omega arith) (λ i. omega arith))
+    (λ d. either-way on (eqb code 3) (λ i. either-way on (ltb argument P) (λ j. omega (arith, ltb-true argument P j)) (λ j. omega arith)) (λ i. omega arith)))
+  where
+    on : Call → Type 0
+    on c = aim c < 8
+
+pub calls-aimed : (file : List ℕ) (P n : ℕ) → P ≤ 8 → Aimed (firstCalls file P n)
+calls-aimed file P n h k = split (decLt k n)
+  where
+    split : Dec (k < n) → aim (getD (firstCalls file P n) k Pop) < 8
+    split (yes l) = rw (call-get file P n k l) (call-aim P (byteAt file (callPlace P k)) (two file (callPlace P k + 1)) h)
+    split (no l) = rw (past-calls file P n k (omega arith)) (omega arith)
+
+pub ready-aim : (calls : List Call) → Aimed calls → (n : ℕ) (r : Process) → aim (r .call) < 8 → aim (ready calls n r .call) < 8
+ready-aim calls aimed n r h = either-way (λ (x : Process). aim (x .call) < 8) (isIdle (r .stage) && ltb (r .next) (r .stop)) (λ e. aimed (r .next)) (λ e. h)
+
+pub on-queue : (p : ℕ) (c : Call) → p < 8 → aim c < 8 → queueOf p c < 8
+on-queue p (Push node) h k = h
+on-queue p Pop h k = h
+on-queue p (Take q) h k = k
+on-queue p (Wrong number) h k = h
+
+pub counted-turn : (W C : ℕ) (calls : List Call) → Aimed calls → (p : ℕ) (s : State) → Counted (s .bench) → Counted (turn W C calls p s .bench)
 unfolding turn turnAs
-counted-turn W C calls p s h =
+counted-turn W C calls aimed p s h =
     let r = ready calls (s .bench .steps) (processAt (s .bench) p) in
     either-way (λ (x : State). Counted (x .bench)) (isIdle (r .stage)) (λ e. counted-idle (s .bench) h)
-    (λ e. counted-act W C p r s h (omega (arith, h .back p, ready-back calls (s .bench .steps) (processAt (s .bench) p))))
+    (λ e. counted-act W C p r s h (omega (arith, h .back p, ready-back calls (s .bench .steps) (processAt (s .bench) p)))
+    (ready-aim calls aimed (s .bench .steps) (processAt (s .bench) p) (h .aims p)))

@@ -102,8 +102,10 @@ fn run_good(
     let mut slots = [0u16; 512];
     let mut log = [0u8; 3077];
     let started = start::start(file, shape.processes);
-    let played = loops::play(file, shape, started, &mut slots, &mut log);
-    let closed = loops::close(shape.width, shape.size, played, &mut slots, &mut log);
+    let from = runfile::schedule_place(shape.processes, shape.calls);
+    let to = from + shape.steps as usize;
+    let played = loops::play(file, shape, &file[from..to], started, &mut slots, &mut log);
+    let closed = loops::close(file, shape, played, &mut slots, &mut log);
     if closed.refused {
         return refuse(9, report, table);
     }

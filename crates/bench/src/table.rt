@@ -1,6 +1,5 @@
 // The final table: for each of eight queues bottom, top, tag and 64 slots.
 ghost use mathlib.Core.Path.{_≡_};
-ghost use mathlib.Core.List.{[]};
 ghost use Prim.Native.Nat.{_≤_, _<_};
 ghost use lib.ListN.{length, getD};
 ghost use Rattle.log.specs.Encode.{listOf};

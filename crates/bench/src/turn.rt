@@ -5,10 +5,10 @@ ghost use Prim.Native.Nat.{_≤_, _<_};
 ghost use lib.ListN.{length, getD};
 ghost use Rattle.queue.specs.Step.{still};
 ghost use Rattle.queue.specs.StepLaws.{stageAfter};
-ghost use Rattle.bench.specs.Layout.{slotsOf, slotsIn, stateIn, putEntries, Becomes, StepsIn, Counted, Moves};
-ghost use Rattle.bench.specs.State.{queueAt, processAt, withQueue, withProcess};
+ghost use Rattle.bench.specs.Layout.{putEntries, StepsIn, Moves};
+ghost use Rattle.bench.specs.State.{queueAt};
 ghost use Rattle.runfile.specs.File.{firstCalls};
-ghost use Rattle.bench.specs.Turn.{firstStage, begun as begunOf, processAfter, queueAfter, isRefused, count as countOf, entriesIn, ready as readyOf, act as actOf};
+ghost use Rattle.bench.specs.Turn.{firstStage, begun as begunOf, processAfter, queueAfter, isRefused, count as countOf, entriesIn, ready as readyOf};
 use crate::Bench;
 use crate::Ended;
 use crate::Process;
@@ -116,18 +116,6 @@ pub(crate) fn queue_at(state: Bench, q: u8) -> Queue
     }
 }
 
-pub(crate) fn process_at(state: Bench, p: u8) -> Process
-    requires { ⌜ length (state .processes) ≡ 8 ⌝ }
-    ensures { λ r. ⌜ r ≡ processAt state p ⌝ }
-{
-    let p = p as usize;
-    if p < 8 {
-        state.processes[p]
-    } else {
-        crate::start::waiting(0, 0)
-    }
-}
-
 fn refused(word: Word) -> Stepped
     ensures { λ r. ⌜ r ≡ still word Next.Refused ⌝ }
 {
@@ -175,34 +163,6 @@ fn keep(log: &mut [u8], n: u16, over: Ended)
     }
 }
 
-fn with_queue(state: Bench, q: u8, queue: Queue) -> Bench
-    requires { ⌜ length (state .queues) ≡ 8 ⌝ }
-    ensures { λ r. ⌜ r ≡ withQueue state q queue ⌝ }
-{
-    let q = q as usize;
-    if q < 8 {
-        let mut changed = state;
-        changed.queues[q] = queue;
-        changed
-    } else {
-        state
-    }
-}
-
-fn with_process(state: Bench, p: u8, process: Process) -> Bench
-    requires { ⌜ length (state .processes) ≡ 8 ⌝ }
-    ensures { λ r. ⌜ r ≡ withProcess state p process ⌝ }
-{
-    let p = p as usize;
-    if p < 8 {
-        let mut changed = state;
-        changed.processes[p] = process;
-        changed
-    } else {
-        state
-    }
-}
-
 // What a step changes: the records of its queue and of its process, and by how much the counts grow.
 pub(crate) struct Moved {
     pub queue: Queue,
@@ -244,46 +204,6 @@ pub(crate) fn moves(
         gone: moment::gone_round(of, before.resets, next),
         refused: is_refused(next),
     }
-}
-
-// A step of process p in its call; of is its record.
-pub(crate) fn act(
-    width: u8,
-    size: u8,
-    state: Bench,
-    slots: &mut [u16],
-    log: &mut [u8],
-    p: u8,
-    of: Process,
-) -> Bench
-    requires { ⌜ Counted state × (state .steps < 8191) × (of .back ≤ state .steps) × (length (now slots) ≡ 512) ⌝ }
-    ensures { λ r. ⌜ Becomes size (state .entries) (now (log .entry)) (actOf width size p of (stateIn size state (now (slots .entry)))) r (now (slots .exit)) (now (log .exit)) ⌝ }
-{
-    let call = of.call;
-    let q = moment::queue_of(p, call);
-    let before = queue_at(state, q);
-    let owner = process_at(state, q);
-    let moved = moves(
-        width,
-        size,
-        slots,
-        log,
-        p,
-        q,
-        state.steps,
-        state.entries,
-        of,
-        before,
-        owner,
-    );
-    let queue = moved.queue;
-    let process = moved.process;
-    let mut after = with_process(with_queue(state, q, queue), p, process);
-    after.entries = state.entries + moved.more;
-    after.steps = state.steps + 1;
-    after.gone = state.gone + moved.gone;
-    after.refused = state.refused | moved.refused;
-    after
 }
 
 // Call k of a file; past the last call of the file there is none to begin.

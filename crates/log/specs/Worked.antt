@@ -7,7 +7,7 @@ use Rattle.log.specs.Decode.{byteAt, numberAt, firstEntry, entryAt}
 use Rattle.log.specs.Encode.{headBytes, entryBytes, putAt}
 use Rattle.log.specs.Numbers.{kindOf, resultOf, bearsMoment, whatOf, same}
 use Rattle.log.specs.declared.Entry.{Entry}
-use Rattle.log.specs.declared.What.the-variants.{Pushed, Full, BottomNode, BottomNil, TopNode, TopNil}
+use Rattle.log.specs.declared.What.the-variants.{Pushed, Full, BottomNil, TopNode, TopNil}
 
 numbered : (kindOf Full ≡ 1) × (kindOf BottomNil ≡ 2) × (kindOf TopNode ≡ 3) × (resultOf Full ≡ 2) × (resultOf Pushed ≡ 1) × (resultOf TopNil ≡ 0)
     × (bearsMoment BottomNil ≡ true) × (bearsMoment TopNil ≡ false) × (whatOf 1 2 ≡ Full) × (whatOf 3 0 ≡ TopNil)

@@ -1,13 +1,14 @@
 -- Laws of the calls of a file: how many they are, which stands at a place, which come before it.
-use mathlib.Core.Path.{_≡_, refl, sym, ap, _∙_}
-use mathlib.Core.Bool.{true, false}
+use mathlib.Core.Path.{_≡_, refl, ap, _∙_}
+use mathlib.Core.Bool.{Bool, true, false, cond, not, _&&_}
 use mathlib.Core.List.{List}
 use Prim.Native.Nat.{ℕ, zero, suc, _+_, _*_, _<_, _≤_}
 use native.Mathlib.Omega.{arith}
 use lib.ListN.{length, getD, take, drop}
 use lib.Seq.{getD-drop}
-use Rattle.runfile.specs.declared.Call.{Call}
-use Rattle.runfile.specs.declared.Call.the-variants.{Pop}
+use lib.Dec.{ltb, eqb}
+use borrow.Author.Tests.{ne-eqb}
+use Rattle.runfile.specs.declared.Call.the-variants.{Push, Pop, Take, Wrong}
 use Rattle.runfile.specs.Check.{any}
 use Rattle.runfile.specs.CheckLaws.{any-next, any-found, any-end}
 use Rattle.runfile.specs.File.{two, callOf, callsOf, callPlace, callAt, firstCalls, pushes, wrongCall, wrongAt}
@@ -45,19 +46,36 @@ module _ (s : List ℕ) (P : ℕ) where
 
   -- the search for a node among the first k calls, from call j on
   module _ (k node j : ℕ) where
-    at-place : (call : Call) → j < k → call ≡ callAt s P j → pushes node (getD (firstCalls s P k) j Pop) ≡ pushes node call
-    at-place call h e = ap (pushes node) (call-get k j h ∙ sym e)
+    at-place : j < k → pushes node (getD (firstCalls s P k) j Pop) ≡ pushes node (callAt s P j)
+    at-place h = ap (pushes node) (call-get k j h)
 
     inside : j < k → j < length (firstCalls s P k)
     inside h = omega (arith, calls-length P k (drop (6 + P) s))
 
-    pub earlier-next : (call : Call) → j < k → call ≡ callAt s P j → pushes node call ≡ false
+    pub earlier-next : j < k → pushes node (callAt s P j) ≡ false
         → any (pushes node) (drop (j + 1) (firstCalls s P k)) ≡ any (pushes node) (drop j (firstCalls s P k))
-    earlier-next call h e d = any-next (pushes node) (firstCalls s P k) Pop j (inside h) (at-place call h e ∙ d)
+    earlier-next h d = any-next (pushes node) (firstCalls s P k) Pop j (inside h) (at-place h ∙ d)
 
-    pub earlier-found : (call : Call) → j < k → call ≡ callAt s P j → pushes node call ≡ true
-        → true ≡ any (pushes node) (drop j (firstCalls s P k))
-    earlier-found call h e d = any-found (pushes node) (firstCalls s P k) Pop j (inside h) (at-place call h e ∙ d)
+    pub earlier-found : j < k → pushes node (callAt s P j) ≡ true → true ≡ any (pushes node) (drop j (firstCalls s P k))
+    earlier-found h d = any-found (pushes node) (firstCalls s P k) Pop j (inside h) (at-place h ∙ d)
 
     pub earlier-end : k ≤ j → false ≡ any (pushes node) (drop j (firstCalls s P k))
     earlier-end h = any-end (pushes node) (firstCalls s P k) Pop j (omega (arith, calls-length P k (drop (6 + P) s)))
+
+-- a call pushes a node exactly where its code is 1 and its argument the node, which is not 0
+pub push-is : (P argument node : ℕ) → pushes node (callOf P 1 argument) ≡ (not (eqb argument 0) && eqb argument node)
+push-is P argument node = by-test (eqb argument 0)
+  where
+    by-test : (t : Bool) → pushes node (cond t (Wrong 5) (Push argument)) ≡ (not t && eqb argument node)
+    by-test true = refl
+    by-test false = refl
+
+pub no-push : (P code argument node : ℕ) → (code ≡ 1 → ⊥) → pushes node (callOf P code argument) ≡ false
+no-push P code argument node h = rw (ne-eqb code 1 h) (by-code (eqb code 2) (eqb code 3) (eqb argument 0) (ltb argument P))
+  where
+    by-code : (a b c d : Bool) → pushes node (cond a (cond c Pop (Wrong 4)) (cond b (cond d (Take argument) (Wrong 4)) (Wrong 4))) ≡ false
+    by-code true b true d = refl
+    by-code true b false d = refl
+    by-code false true c true = refl
+    by-code false true c false = refl
+    by-code false false c d = refl

@@ -4,7 +4,7 @@ ghost use Prim.Native.Nat.{_+_, _*_, _<_, _≤_};
 ghost use lib.Dec.{leb};
 ghost use lib.ListN.{length};
 ghost use Rattle.runfile.specs.Check.{_when_, any, firstOf, outside};
-ghost use Rattle.runfile.specs.File.{byteAt, two, part, lengthAt, callsBefore, callPlace, callOf, callAt, whoAt, pushes, pushedEarlier, firstCalls, wrongAt, wrongCall, callsIn, stepsIn, section1, section2, section3, section4, numberOf, fileOf, readingOf};
+ghost use Rattle.runfile.specs.File.{byteAt, two, part, lengthAt, callsBefore, callPlace, callOf, callAt, stepPlace, whoAt, pushes, pushedEarlier, firstCalls, wrongAt, wrongCall, callsIn, stepsIn, section1, section2, section3, section4, numberOf, fileOf, readingOf};
 
 // A call by its code and argument; `Wrong` has the number that refuses it, and no good file has one.
 pub enum Call {
@@ -95,7 +95,7 @@ pub fn calls_before(file: &[u8], p: u8) -> u16
 
 // Where call k begins.
 fn call_place(processes: u8, k: u16) -> usize
-    ensures { λ r. ⌜ (r ≡ callPlace processes k) × (r < 1000000) ⌝ }
+    ensures { λ r. ⌜ (r ≡ callPlace processes k) × (r < 900000) ⌝ }
 {
     6 + u8_to_usize(processes) + 3 * u16_to_usize(k)
 }
@@ -136,34 +136,41 @@ pub fn call_at(file: &[u8], processes: u8, k: u16) -> Call
     call_of(processes, code, argument)
 }
 
+// Where the bytes of the schedule begin.
+pub fn schedule_place(processes: u8, calls: u16) -> usize
+    ensures { λ r. ⌜ (r ≡ stepPlace processes calls 0) × (r < 1000000) ⌝ }
+{
+    call_place(processes, calls) + 2
+}
+
 // The process of step k of the schedule.
 pub fn who_at(file: &[u8], processes: u8, calls: u16, k: u16) -> u8
     ensures { λ r. ⌜ r ≡ whoAt (now (file .entry)) processes calls k ⌝ }
 {
-    let at = call_place(processes, calls);
-    byte_at(file, at + 2 + u16_to_usize(k))
+    byte_at(file, schedule_place(processes, calls) + u16_to_usize(k))
 }
 
-// Whether a call pushes the node.
-fn is_push(call: Call, node: u16) -> bool
-    ensures { λ r. ⌜ r ≡ pushes node call ⌝ }
+// Whether call k pushes the node: only its code and its argument are read, for each push of a file asks this of every call before it.
+fn pushes_at(file: &[u8], processes: u8, k: u16, node: u16) -> bool
+    requires { ⌜ callPlace processes k + 3 ≤ length (now file) ⌝ }
+    ensures { λ r. ⌜ r ≡ pushes node (callAt (now (file .entry)) processes k) ⌝ }
 {
-    match call {
-        Call::Push(x) => x == node,
-        Call::Pop => false,
-        Call::Take(_) => false,
-        Call::Wrong(_) => false,
+    let at = call_place(processes, k);
+    if file[at] != 1 {
+        return false;
     }
+    let argument = 256 * u8_to_u16(file[at + 1]) + u8_to_u16(file[at + 2]);
+    (argument != 0) & (argument == node)
 }
 
 // Whether one of the first k calls of the file pushes the node.
 fn pushed_earlier(file: &[u8], processes: u8, k: u16, node: u16) -> bool
+    requires { ⌜ callPlace processes k ≤ length (now file) ⌝ }
     ensures { λ r. ⌜ r ≡ pushedEarlier (now (file .entry)) processes k node ⌝ }
 {
     let mut j: u16 = 0;
     while j < k {
-        let call = call_at(file, processes, j);
-        let same = is_push(call, node);
+        let same = pushes_at(file, processes, j, node);
         if same {
             return true;
         }
@@ -174,6 +181,7 @@ fn pushed_earlier(file: &[u8], processes: u8, k: u16, node: u16) -> bool
 
 // The number that refuses call k, 0 for none.
 fn wrong_call(file: &[u8], processes: u8, k: u16) -> u8
+    requires { ⌜ callPlace processes k ≤ length (now file) ⌝ }
     ensures { λ r. ⌜ r ≡ wrongAt (now (file .entry)) processes k ⌝ }
 {
     let call = call_at(file, processes, k);
@@ -190,6 +198,7 @@ fn wrong_call(file: &[u8], processes: u8, k: u16) -> u8
 
 // The number that refuses the first wrong call, 0 where there is none.
 fn first_wrong(file: &[u8], processes: u8, calls: u16) -> u8
+    requires { ⌜ callPlace processes calls ≤ length (now file) ⌝ }
     ensures { λ r. ⌜ r ≡ firstOf (wrongCall (firstCalls (now (file .entry)) processes calls)) calls ⌝ }
 {
     let mut k: u16 = 0;
@@ -311,7 +320,7 @@ fn section_4(file: &[u8]) -> u8
 {
     let processes = byte_at(file, 3);
     let calls = calls_in(file);
-    let counted = call_place(processes, calls) + 2;
+    let counted = schedule_place(processes, calls);
     if file.len() < counted {
         return 1;
     }
@@ -350,7 +359,7 @@ fn number_of(file: &[u8]) -> u8
     let processes = byte_at(file, 3);
     let calls = calls_in(file);
     let steps = steps_in(file);
-    let ended = call_place(processes, calls) + 2 + u16_to_usize(steps);
+    let ended = schedule_place(processes, calls) + u16_to_usize(steps);
     when(7, ended < file.len())
 }
 

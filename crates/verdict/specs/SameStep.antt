@@ -1,13 +1,13 @@
 -- The run's step is the step of `queue`: the word, the slots and the next stage are those of `steppedOn`, which `step_on` promises and whose
 -- conditions are the desk's. So a desk over `step_on` makes the run's step.
 use Prim.Native.Nat.{ℕ, _<_}
-use mathlib.Core.Path.{_≡_, refl}
+use mathlib.Core.Path.{_≡_}
 use mathlib.Core.List.{List, []}
 use lib.ListN.{length, getD}
 use lib.Seq.{getD-set-same}
 use Rattle.bench.specs.Moment.{queueOf}
 use Rattle.bench.specs.State.{State, fresh, nobody, queueAt, processAt}
-use Rattle.bench.specs.Turn.{queueAfter, processAfter, stepping, act}
+use Rattle.bench.specs.Turn.{queueAfter, processAfter, act}
 use Rattle.bench.specs.declared.Process.{Process}
 use Rattle.queue.specs.Step.{stored, steppedOn, StepOn}
 use Rattle.queue.specs.StepLaws.{stageAfter}

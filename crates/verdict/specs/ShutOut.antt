@@ -1,7 +1,7 @@
 -- The wrong programs that document 01 shuts out by name: of each, that it cannot keep the promise.
 use Prim.Native.Nat.{ℕ}
-use mathlib.Core.Path.{_≡_, refl, sym, ap, _∙_}
-use mathlib.Core.List.{List, []}
+use mathlib.Core.Path.{_≡_, sym, ap, _∙_}
+use mathlib.Core.List.{List}
 use native.Mathlib.Omega.{arith}
 use lib.ListN.{length, getD, replicate}
 use Rattle.bench.specs.Run.{Outcome, tableSize, runOf}

@@ -56,17 +56,14 @@ calls-in-requires c κs = search needs
 steps-in-requires : tie.Need-steps-in-requires
 steps-in-requires c κs = search needs
 
-call-place-requires : tie.Need-call-place-requires
-call-place-requires c κs = search needs
-
-add-ended : tie.Need-add-ended
-add-ended c = search needs
+schedule-place-requires : tie.Need-schedule-place-requires
+schedule-place-requires c κs = search needs
 
 u16-to-usize-requires : tie.Need-u16-to-usize-requires
 u16-to-usize-requires c κs = search needs
 
-add-ended-2 : tie.Need-add-ended-2
-add-ended-2 c = search needs
+add-ended : tie.Need-add-ended
+add-ended c = search needs
 
 when-requires : tie.Need-when-requires
 when-requires c κs = search needs
@@ -78,7 +75,7 @@ returns-5 c =
     let c2 = c3 .before .before in
     let c1 = c2 .before .before in
     let s = c1 .before .before .before .args .file .now in
-    let ended : c .before .before .call-place .result + 2 + c .before .u16-to-usize .result ≡ stepPlace (processesIn s) (callsIn s) (stepsIn s) =
+    let ended : c .before .before .schedule-place .result + c .before .u16-to-usize .result ≡ stepPlace (processesIn s) (callsIn s) (stepsIn s) =
     omega arith in
     goes-on _ _ _ _ (c1 .before .section-1 .ensures) (c1 .if1 .left)
     (goes-on _ _ _ _ (c2 .before .section-2 .ensures) (c2 .if2 .left)
@@ -101,9 +98,8 @@ number-of-spec =
     byte-at-requires
     calls-in-requires
     steps-in-requires
-    call-place-requires
-    add-ended
+    schedule-place-requires
     u16-to-usize-requires
-    add-ended-2
+    add-ended
     when-requires
     returns-5)

@@ -2,6 +2,7 @@
 use borrow.Author.Needs.{needs}
 use mathlib.Core.Path.{_≡_, refl, sym, _∙_}
 use Prim.Native.Nat.{_-_, _≤_}
+use native.Mathlib.Omega.{arith}
 use lib.ListN.{drop}
 use Rattle.runfile.specs.Check.{any}
 use Rattle.runfile.specs.File.{firstCalls, pushes, pushedEarlier}
@@ -18,19 +19,14 @@ abbrev μ-loop : tie.MeasureT-loop
 loop-holds : tie.Need-loop-holds Inv-loop μ-loop
 loop-holds c = (refl, search needs)
 
-call-at-requires : tie.Need-call-at-requires Inv-loop μ-loop
-call-at-requires c κs = search needs
-
-is-push-requires : tie.Need-is-push-requires Inv-loop μ-loop
-is-push-requires c κs = search needs
+pushes-at-requires : tie.Need-pushes-at-requires Inv-loop μ-loop
+pushes-at-requires c κs = omega (arith, c .before .before .before .pre, c .loop-test .taken)
 
 returns : tie.Need-returns Inv-loop μ-loop
 returns c =
-    let a = c .before .before .before .before .before .before .args in
-    let l = c .before .before .before .before .loop in
-    let call = c .before .before .call-at in
-    earlier-found (a .file .now) (a .processes) (a .k) (a .node) (l .j) (call .result) (c .before .before .before .loop-test .taken) (call .ensures)
-    (sym (c .before .is-push .ensures) ∙ c .if1 .taken)
+    let a = c .before .before .before .before .before .args in
+    let l = c .before .before .before .loop in
+    earlier-found (a .file .now) (a .processes) (a .k) (a .node) (l .j) (c .before .before .loop-test .taken) (sym (c .before .pushes-at .ensures) ∙ c .if1 .taken)
     ∙ l .inv .0
 
 add-j : tie.Need-add-j Inv-loop μ-loop
@@ -41,11 +37,9 @@ loop-less c = search needs
 
 loop-again : tie.Need-loop-again Inv-loop μ-loop
 loop-again c =
-    let a = c .before .before .before .before .before .before .args in
-    let l = c .before .before .before .before .loop in
-    let call = c .before .before .call-at in (
-      earlier-next (a .file .now) (a .processes) (a .k) (a .node) (l .j) (call .result) (c .before .before .before .loop-test .taken) (call .ensures)
-          (sym (c .before .is-push .ensures) ∙ c .if1 .left)
+    let a = c .before .before .before .before .before .args in
+    let l = c .before .before .before .loop in (
+      earlier-next (a .file .now) (a .processes) (a .k) (a .node) (l .j) (c .before .before .loop-test .taken) (sym (c .before .pushes-at .ensures) ∙ c .if1 .left)
           ∙ l .inv .0,
       search needs,
     )
@@ -63,8 +57,7 @@ pushed-earlier-spec =
     Inv-loop
     μ-loop
     loop-holds
-    call-at-requires
-    is-push-requires
+    pushes-at-requires
     returns
     add-j
     loop-less

@@ -1,6 +1,5 @@
 -- The tests are those of `section4`, in its order.
 use mathlib.Core.Path.{_≡_, _∙_}
-use Prim.Native.Nat.{_+_}
 use native.Mathlib.Omega.{arith}
 use borrow.Author.Tests.{lt-ltb, le-ltb}
 use lib.ListN.{length}
@@ -15,11 +14,8 @@ byte-at-requires c κs = search needs
 calls-in-requires : tie.Need-calls-in-requires
 calls-in-requires c κs = search needs
 
-call-place-requires : tie.Need-call-place-requires
-call-place-requires c κs = search needs
-
-add-counted : tie.Need-add-counted
-add-counted c = search needs
+schedule-place-requires : tie.Need-schedule-place-requires
+schedule-place-requires c κs = search needs
 
 returns : tie.Need-returns
 returns c =
@@ -58,7 +54,7 @@ when-requires c κs = search needs
 returns-4 : tie.Need-returns-4
 returns-4 c =
     let s = c .before .before .before .before .before .before .before .before .before .before .before .args .file .now in
-    let at : c .before .before .before .before .before .before .before .call-place .result + 2 ≡ stepPlace (processesIn s) (callsIn s) 0 = omega arith in
+    let at : c .before .before .before .before .before .before .before .schedule-place .result ≡ stepPlace (processesIn s) (callsIn s) 0 = omega arith in
     let count : c .before .before .before .u16-to-usize .result ≡ stepsIn s = omega arith in
     rw (
       le-ltb (length s) (stepPlace (processesIn s) (callsIn s) 0) (omega arith),
@@ -73,8 +69,7 @@ section-4-spec =
     (tie.spec
     byte-at-requires
     calls-in-requires
-    call-place-requires
-    add-counted
+    schedule-place-requires
     returns
     steps-in-requires
     returns-2

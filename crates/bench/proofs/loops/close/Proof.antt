@@ -1,64 +1,89 @@
--- `loops::close` meets its contract.
-use Prim.Native.Nat.{_-_, _≤_}
-use mathlib.Core.Path.{_≡_, sym, ap, _∙_}
+-- `loops::close` meets its contract: a schedule of the lowest half-done process alone is a step of the closing.
+use Prim.Native.Nat.{ℕ, zero, suc, _-_, _≤_, _<_}
+use mathlib.Core.Path.{_≡_, sym, _∙_}
+use mathlib.Core.List.{[], _∷_}
 use lib.Count.{trailingZeros, trailing-le}
 use borrow.Author.Needs.{needs}
-use lib.ListN.{length}
+use lib.ListN.{length, getD}
 use native.Mathlib.Omega.{arith}
-use Rattle.bench.specs.declared.Process.{Process}
+use Rattle.runfile.specs.File.{firstCalls}
 use Rattle.bench.specs.RunLaws.{Closing, along-length, closing-start, closing-next, closing-early, closing-all}
 use Rattle.bench.specs.Layout.{stateIn}
+use Rattle.bench.specs.TurnLaws.{calls-aimed}
 use Rattle.bench.specs.Half.{next-closed, run-closed, run-open}
 use Rattle.bench.proofs.loops.close.Statement.{statement}
 use Rattle.bench.proofs.loops.close.Tie as tie
 
 abbrev Inv-loop : tie.InvT-loop
-Inv-loop width size slots₀ log₀ after₀ done₀ slots log after done =
-    (done ≤ 48) × (length slots ≡ 512) × Closing width size (after₀ .entries) log₀ (stateIn size after₀ slots₀) done after slots log
+Inv-loop file shape slots₀ log₀ after₀ done₀ slots log after done =
+    (done ≤ 48) × (length slots ≡ 512) × Closing (shape .width) (shape .size) (after₀ .entries) log₀ (stateIn (shape .size) after₀ slots₀) done after slots log
 
 abbrev μ-loop : tie.MeasureT-loop
-μ-loop width size slots₀ log₀ after₀ done₀ slots log after done = 48 - done
+μ-loop file shape slots₀ log₀ after₀ done₀ slots log after done = 48 - done
+
+alone : (p : ℕ) → p < 8 → (k : ℕ) → k < 1 → getD (p ∷ []) k 0 < 8
+alone p l zero h = l
+alone p l (suc k) h = absurd (omega arith)
 
 loop-holds : tie.Need-loop-holds Inv-loop μ-loop
-loop-holds c = (omega arith, c .before .before .pre .2, closing-start _ _ _ _ _ (c .before .before .pre .0) (c .before .before .pre .1))
+loop-holds c = let s = c .before .before .before in (omega arith, s .pre .all-slots, closing-start _ _ _ _ _ (s .pre .counted) (s .pre .few))
 
 half-done-requires : tie.Need-half-done-requires Inv-loop μ-loop
 half-done-requires c κs = c .before .loop .inv .2 .0 .counted .processes
 
 same-length : tie.Need-same-length Inv-loop μ-loop
-same-length c = c .before .before .before .loop .inv .1 ∙ sym (c .before .before .before .before .before .before .pre .2)
+same-length c = c .before .before .before .loop .inv .1 ∙ sym (c .before .before .before .before .before .before .before .pre .all-slots)
 
 same-length-2 : tie.Need-same-length-2 Inv-loop μ-loop
 same-length-2 c = along-length _ _ _ _ _ _ _ (c .before .before .before .loop .inv .2 .0)
 
 returns : tie.Need-returns Inv-loop μ-loop
-returns c = closing-early _ _ _ _ _ _ _ _ _ (c .before .before .before .loop .inv .2) (run-closed (c .before .before .before .loop .after .processes) (c .before .before .before .loop .inv .2 .0 .counted .processes) _ (c .before .half-done .ensures) (c .if1 .taken)) 48 (c .before .before .before .loop .inv .0)
+returns c =
+    let l = c .before .before .before .loop in
+    closing-early _ _ _ _ _ _ _ _ _ (l .inv .2) (run-closed (l .after .processes) (l .inv .2 .0 .counted .processes) _ (c .before .half-done .ensures) (c .if1 .taken)) 48 (l .inv .0)
 
 cast-p : tie.Need-cast-p Inv-loop μ-loop
 cast-p c = omega (arith, trailing-le 8 (c .before .half-done .result))
 
-process-at-requires : tie.Need-process-at-requires Inv-loop μ-loop
-process-at-requires c κs = c .before .before .before .loop .inv .2 .0 .counted .processes
+slice-aggregate-play : tie.Need-slice-aggregate-play Inv-loop μ-loop
+slice-aggregate-play c = search needs
 
-act-requires : tie.Need-act-requires Inv-loop μ-loop
-act-requires c κs = (c .before .before .before .before .before .before .loop .inv .2 .0 .counted, omega (arith, c .before .before .before .before .before .before .loop .inv .2 .1), omega (arith, c .before .before .before .before .before .before .loop .inv .2 .0 .counted .back (trailingZeros 8 (c .before .before .before .before .half-done .result)), ap (λ (x : Process). x .back) (c .before .before .process-at .ensures)), c .before .before .before .before .before .before .loop .inv .1)
+play-requires : tie.Need-play-requires Inv-loop μ-loop
+play-requires c κs =
+    let s = c .before .before .before .before .before .before .before .before .before .before in
+    let l = c .before .before .before .before .before .before .loop in
+    let counted = l .inv .2 .0 .counted in
+    let set = c .before .before .before .before .half-done .result in
+    let lowest = run-open (l .after .processes) (counted .processes) set (c .before .before .before .before .half-done .ensures) (c .before .before .before .if1 .left) in
+    record {
+      counted = counted;
+      few = omega (arith, l .inv .2 .1, c .before .before .before .before .before .loop-test .taken);
+      all-slots = l .inv .1;
+      processes = s .pre .processes;
+      below = alone (trailingZeros 8 set) (omega (arith, lowest));
+    }
 
 add-done : tie.Need-add-done Inv-loop μ-loop
-add-done c = omega arith
+add-done c = search needs
 
 loop-less : tie.Need-loop-less Inv-loop μ-loop
-loop-less c = omega arith
+loop-less c = search needs
 
 loop-again : tie.Need-loop-again Inv-loop μ-loop
-loop-again c = (
-  omega arith,
-  search needs,
-  closing-next _ _ _ _ _ _ _ _ _ (c .before .before .before .before .before .before .before .before .before .before .before .loop .inv .2) _ _ _ _ _ (next-closed (c .before .before .before .before .before .before .before .before .before .before .before .loop .after .processes) (c .before .before .before .before .before .before .before .before .before .before .before .loop .inv .2 .0 .counted .processes) _ (c .before .before .before .before .before .before .before .before .before .half-done .ensures))
-      (run-open (c .before .before .before .before .before .before .before .before .before .before .before .loop .after .processes) (c .before .before .before .before .before .before .before .before .before .before .before .loop .inv .2 .0 .counted .processes) _ (c .before .before .before .before .before .before .before .before .before .half-done .ensures) (c .before .before .before .before .before .before .before .before .if1 .left)) (c .before .before .before .before .before .before .before .process-at .ensures) (c .before .before .before .before .act .ensures),
-)
+loop-again c =
+    let s = c .before .before .before .before .before .before .before .before .before .before .before .before .before .before .before in
+    let l = c .before .before .before .before .before .before .before .before .before .before .before .loop in
+    let counted = l .inv .2 .0 .counted .processes in
+    let set = c .before .before .before .before .before .before .before .before .before .half-done .ensures in (
+      omega (arith, c .before .before .before .before .before .before .before .before .before .before .loop-test .taken),
+      omega (arith, c .before .before .before .slots .given, l .inv .1),
+      closing-next _ _ _ _ _ _ _ _ _ (l .inv .2) (firstCalls (s .args .file .now) (s .args .shape .processes) (s .args .shape .calls))
+          (calls-aimed (s .args .file .now) (s .args .shape .processes) (s .args .shape .calls) (s .pre .processes)) (trailingZeros 8 (c .before .before .before .before .before .before .before .before .before .half-done .result)) _ _ _
+          (next-closed (l .after .processes) counted _ set) (run-open (l .after .processes) counted _ set (c .before .before .before .before .before .before .before .before .if1 .left)) (c .before .before .before .before .play .ensures),
+    )
 
 same-length-3 : tie.Need-same-length-3 Inv-loop μ-loop
-same-length-3 c = c .before .loop .inv .1 ∙ sym (c .before .before .before .before .pre .2)
+same-length-3 c = c .before .loop .inv .1 ∙ sym (c .before .before .before .before .before .pre .all-slots)
 
 same-length-4 : tie.Need-same-length-4 Inv-loop μ-loop
 same-length-4 c = along-length _ _ _ _ _ _ _ (c .before .loop .inv .2 .0)
@@ -78,8 +103,8 @@ close-spec =
     same-length-2
     returns
     cast-p
-    process-at-requires
-    act-requires
+    slice-aggregate-play
+    play-requires
     add-done
     loop-less
     loop-again

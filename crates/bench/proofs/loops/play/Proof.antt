@@ -1,45 +1,87 @@
--- `loops::play` meets its contract.
-use Prim.Native.Nat.{_-_, _≤_}
+-- `loops::play` meets its contract: after i steps the bench stands for the state that the first i bytes of the schedule lead to.
+use Prim.Native.Nat.{ℕ, _-_, _≤_, _<_}
 use mathlib.Core.Path.{_≡_, refl, sym, _∙_}
+use mathlib.Core.List.{List}
 use borrow.Author.Needs.{needs}
-use lib.ListN.{length}
+use lib.ListN.{length, getD}
 use native.Mathlib.Omega.{arith}
+use Rattle.bench.specs.Moment.{queueOf}
 use Rattle.bench.specs.State.{processAt}
+use Rattle.bench.specs.Turn.{ready}
+use Rattle.bench.specs.declared.Bench.{Bench}
+use Rattle.bench.specs.declared.Process.{Process}
 use Rattle.bench.specs.RunLaws.{Played, played-start, played-next, played-all, along-length}
-use Rattle.bench.specs.LayoutLaws.{back-counted, turn-idles, turn-acts, moved-more, moved-gone, moves-become}
-use Rattle.bench.specs.Layout.{stateIn}
-use Rattle.runfile.specs.File.{firstCalls, whoAt}
-use Rattle.log.specs.EncodeLaws.{listOf-length, listOf-getD}
-use Rattle.log.specs.Encode.{listOf}
+use Rattle.bench.specs.LayoutLaws.{back-counted, queue-counted, turn-idles, turn-acts, moved-more, moved-gone, moves-become}
+use Rattle.bench.specs.Layout.{stateIn, Counted, ToPlay}
+use Rattle.bench.specs.TurnLaws.{calls-aimed}
+use Rattle.runfile.specs.File.{firstCalls}
+use Rattle.runfile.specs.declared.Call.{Call}
+use Rattle.runfile.specs.declared.Shape.{Shape}
 use Rattle.bench.proofs.loops.play.Statement.{statement}
 use Rattle.bench.proofs.loops.play.Tie as tie
 
+abbrev callsOf : List ℕ → Shape → List Call
+callsOf file shape = firstCalls file (shape .processes) (shape .calls)
+
+-- the queue of the step's call is one of the eight
+on-queue-of : (file : List ℕ) (shape : Shape) (schedule : List ℕ) {b₀ : Bench} {flat : List ℕ} → ToPlay shape schedule b₀ flat → (i : ℕ) → i < length schedule → (b : Bench) → Counted b
+    → (r : Process) → r ≡ ready (callsOf file shape) (b .steps) (processAt b (getD schedule i 0)) → (q : ℕ) → q ≡ queueOf (getD schedule i 0) (r .call) → q < 8
+on-queue-of file shape schedule pre i l b counted r e q d =
+    let p = getD schedule i 0 in
+    let on = queue-counted (callsOf file shape) p b (processAt b p) r refl e (calls-aimed file (shape .processes) (shape .calls) (pre .processes)) (pre .below i l) counted in
+    omega (arith, d, on)
+
 abbrev Inv-loop : tie.InvT-loop
-Inv-loop file shape slots₀ log₀ after₀ i₀ slots log after i =
-    (i ≤ shape .steps) × (length slots ≡ 512)
-    × Played (shape .width) (shape .size) (after₀ .entries) (firstCalls file (shape .processes) (shape .calls)) (listOf (shape .steps) (whoAt file (shape .processes) (shape .calls)))
-    log₀ (stateIn (shape .size) after₀ slots₀) i after slots log
+Inv-loop file shape schedule slots₀ log₀ after₀ i₀ slots log after i =
+    (i ≤ length schedule) × (length slots ≡ 512)
+    × Played (shape .width) (shape .size) (after₀ .entries) (callsOf file shape) schedule log₀ (stateIn (shape .size) after₀ slots₀) i after slots log
 
 abbrev μ-loop : tie.MeasureT-loop
-μ-loop file shape slots₀ log₀ after₀ i₀ slots log after i = shape .steps - i
+μ-loop file shape schedule slots₀ log₀ after₀ i₀ slots log after i = length schedule - i
 
 loop-holds : tie.Need-loop-holds Inv-loop μ-loop
-loop-holds c = (omega arith, c .before .before .before .pre .2, played-start _ _ (firstCalls (c .before .before .before .args .file .now) (c .before .before .before .args .shape .processes) (c .before .before .before .args .shape .calls)) (listOf (c .before .before .before .args .shape .steps) (whoAt (c .before .before .before .args .file .now) (c .before .before .before .args .shape .processes) (c .before .before .before .args .shape .calls))) _ _ _ (c .before .before .before .pre .0) (c .before .before .before .pre .1))
+loop-holds c =
+    let s = c .before .before .before .before in
+    (omega arith, s .pre .all-slots, played-start _ _ (callsOf (s .args .file .now) (s .args .shape)) (s .args .schedule .now) _ _ _ (s .pre .counted))
 
-who-at-requires : tie.Need-who-at-requires Inv-loop μ-loop
-who-at-requires c κs = search needs
+shared-slice-read-p : tie.Need-shared-slice-read-p Inv-loop μ-loop
+shared-slice-read-p c = search needs
 
 cast-at : tie.Need-cast-at Inv-loop μ-loop
-cast-at c = search needs
+cast-at c = omega (arith, c .shared-slice-known3 .given (c .before .before .loop .i))
 
 mul-waiting : tie.Need-mul-waiting Inv-loop μ-loop
-mul-waiting c = search needs
+mul-waiting c = omega (arith, c .before .before .before .before .before .before .before .pre .below (c .before .before .loop .i) (c .before .loop-test .taken))
 
 element-copy-out-waiting : tie.Need-element-copy-out-waiting Inv-loop μ-loop
-element-copy-out-waiting c = omega (arith, (c .before .before .before .before .before .before .before .pre .4 (c .before .before .before .loop .i) (c .before .if1 .taken)), c .who-at .ensures)
+element-copy-out-waiting c = c .before .before .before .before .before .before .before .pre .below (c .before .before .loop .i) (c .before .loop-test .taken)
 
 ready-requires : tie.Need-ready-requires Inv-loop μ-loop
 ready-requires c κs = search needs
+
+add-after : tie.Need-add-after Inv-loop μ-loop
+add-after c = omega (arith, c .before .before .before .before .loop .inv, c .before .before .before .loop-test .taken, c .before .before .before .before .before .before .before .before .before .pre .few)
+
+add-i : tie.Need-add-i Inv-loop μ-loop
+add-i c = search needs
+
+is-idle-requires : tie.Need-is-idle-requires Inv-loop μ-loop
+is-idle-requires c κs = search needs
+
+loop-less : tie.Need-loop-less Inv-loop μ-loop
+loop-less c = omega (arith, c .before .before .before .before .before .loop-test .taken)
+
+loop-again : tie.Need-loop-again Inv-loop μ-loop
+loop-again c =
+    let s = c .before .before .before .before .before .before .before .before .before .before .before in
+    let l = c .before .before .before .before .before .before .loop in
+    let calls = callsOf (s .args .file .now) (s .args .shape) in
+    let p = getD (s .args .schedule .now) (l .i) 0 in (
+      omega (arith, c .before .before .before .before .before .loop-test .taken),
+      l .inv .1,
+      played-next _ _ _ calls (s .args .schedule .now) _ _ (l .i) _ _ _ (calls-aimed (s .args .file .now) (s .args .shape .processes) (s .args .shape .calls) (s .pre .processes)) p _ _ _ (l .inv .2) (c .before .before .before .before .before .loop-test .taken) refl
+          (turn-idles calls p (l .after) (processAt (l .after) p) (c .before .before .ready .result) refl (c .before .before .ready .ensures) _ _ _ _ _ (sym (c .before .is-idle .ensures) ∙ c .if1 .taken) refl),
+    )
 
 queue-of-requires : tie.Need-queue-of-requires Inv-loop μ-loop
 queue-of-requires c κs = search needs
@@ -47,104 +89,77 @@ queue-of-requires c κs = search needs
 cast-on : tie.Need-cast-on Inv-loop μ-loop
 cast-on c = search needs
 
-is-idle-requires : tie.Need-is-idle-requires Inv-loop μ-loop
-is-idle-requires c κs = search needs
-
-add-counted : tie.Need-add-counted Inv-loop μ-loop
-add-counted c = omega (arith, c .before .before .before .before .before .before .before .before .loop .inv .2 .1, c .before .before .before .before .before .before .before .before .loop .inv .0, c .before .before .before .before .before .before .before .before .before .before .before .before .pre .3)
-
-add-i : tie.Need-add-i Inv-loop μ-loop
-add-i c = omega (arith, c .before .before .before .before .before .before .if1 .taken)
-
-loop-less : tie.Need-loop-less Inv-loop μ-loop
-loop-less c = omega (arith, c .before .before .before .before .before .before .if1 .taken)
-
-loop-again : tie.Need-loop-again Inv-loop μ-loop
-loop-again c = (
-  omega (arith, c .before .before .before .before .before .before .if1 .taken),
-  search needs,
-  played-next _ _ _ (firstCalls (c .before .before .before .before .before .before .before .before .before .before .before .before .args .file .now) (c .before .before .before .before .before .before .before .before .before .before .before .before .args .shape .processes) (c .before .before .before .before .before .before .before .before .before .before .before .before .args .shape .calls)) (listOf (c .before .before .before .before .before .before .before .before .before .before .before .before .args .shape .steps) (whoAt (c .before .before .before .before .before .before .before .before .before .before .before .before .args .file .now) (c .before .before .before .before .before .before .before .before .before .before .before .before .args .shape .processes) (c .before .before .before .before .before .before .before .before .before .before .before .before .args .shape .calls))) _ _ (c .before .before .before .before .before .before .before .before .loop .i) _ _ _ (c .before .before .before .before .before .who-at .result) _ _ _ (c .before .before .before .before .before .before .before .before .loop .inv .2) (omega (arith, c .before .before .before .before .before .before .if1 .taken, listOf-length (c .before .before .before .before .before .before .before .before .before .before .before .before .args .shape .steps) (whoAt (c .before .before .before .before .before .before .before .before .before .before .before .before .args .file .now) (c .before .before .before .before .before .before .before .before .before .before .before .before .args .shape .processes) (c .before .before .before .before .before .before .before .before .before .before .before .before .args .shape .calls))))
-      (c .before .before .before .before .before .who-at .ensures ∙ sym (listOf-getD (c .before .before .before .before .before .before .before .before .before .before .before .before .args .shape .steps) (whoAt (c .before .before .before .before .before .before .before .before .before .before .before .before .args .file .now) (c .before .before .before .before .before .before .before .before .before .before .before .before .args .shape .processes) (c .before .before .before .before .before .before .before .before .before .before .before .before .args .shape .calls)) 0 (c .before .before .before .before .before .before .before .before .loop .i) (c .before .before .before .before .before .before .if1 .taken)))
-      (turn-idles (firstCalls (c .before .before .before .before .before .before .before .before .before .before .before .before .args .file .now) (c .before .before .before .before .before .before .before .before .before .before .before .before .args .shape .processes) (c .before .before .before .before .before .before .before .before .before .before .before .before .args .shape .calls)) (c .before .before .before .before .before .who-at .result) (c .before .before .before .before .before .before .before .before .loop .after) (processAt (c .before .before .before .before .before .before .before .before .loop .after) (c .before .before .before .before .before .who-at .result)) (c .before .before .before .ready .result) refl (c .before .before .before .ready .ensures) _ _ _ _ _ (sym (c .before .is-idle .ensures) ∙ c .if2 .taken) refl),
-)
-
-act-requires : tie.Need-act-requires Inv-loop μ-loop
-act-requires c κs = (c .before .before .before .before .before .before .before .before .before .before .before .loop .inv .2 .0 .counted, omega (arith, c .before .before .before .before .before .before .before .before .before .before .before .loop .inv .2 .1, c .before .before .before .before .before .before .before .before .before .before .before .loop .inv .0, c .before .before .before .before .before .before .before .before .before .before .before .before .before .before .before .pre .3), (back-counted (firstCalls (c .before .before .before .before .before .before .before .before .before .before .before .before .before .before .before .args .file .now) (c .before .before .before .before .before .before .before .before .before .before .before .before .before .before .before .args .shape .processes) (c .before .before .before .before .before .before .before .before .before .before .before .before .before .before .before .args .shape .calls)) (c .before .before .before .before .before .before .before .before .who-at .result) (c .before .before .before .before .before .before .before .before .before .before .before .loop .after) (processAt (c .before .before .before .before .before .before .before .before .before .before .before .loop .after) (c .before .before .before .before .before .before .before .before .who-at .result)) (c .before .before .before .before .before .before .ready .result) refl (c .before .before .before .before .before .before .ready .ensures) (c .before .before .before .before .before .before .before .before .before .before .before .loop .inv .2 .0 .counted)), c .before .before .before .before .before .before .before .before .before .before .before .loop .inv .1)
-
-add-i-2 : tie.Need-add-i-2 Inv-loop μ-loop
-add-i-2 c = omega (arith, c .before .before .before .before .before .before .before .before .before .before .before .before .before .before .if1 .taken, c .before .before .before .before .before .before .before .before .before .before .before .before .before .before .before .before .before .before .before .before .pre .3)
-
-loop-less-2 : tie.Need-loop-less-2 Inv-loop μ-loop
-loop-less-2 c = omega (arith, c .before .before .before .before .before .before .before .before .before .before .before .before .before .before .if1 .taken)
-
-loop-again-2 : tie.Need-loop-again-2 Inv-loop μ-loop
-loop-again-2 c = (
-  omega (arith, c .before .before .before .before .before .before .before .before .before .before .before .before .before .before .if1 .taken),
-  search needs,
-  played-next _ _ _ (firstCalls (c .before .before .before .before .before .before .before .before .before .before .before .before .before .before .before .before .before .before .before .before .args .file .now) (c .before .before .before .before .before .before .before .before .before .before .before .before .before .before .before .before .before .before .before .before .args .shape .processes) (c .before .before .before .before .before .before .before .before .before .before .before .before .before .before .before .before .before .before .before .before .args .shape .calls)) (listOf (c .before .before .before .before .before .before .before .before .before .before .before .before .before .before .before .before .before .before .before .before .args .shape .steps) (whoAt (c .before .before .before .before .before .before .before .before .before .before .before .before .before .before .before .before .before .before .before .before .args .file .now) (c .before .before .before .before .before .before .before .before .before .before .before .before .before .before .before .before .before .before .before .before .args .shape .processes) (c .before .before .before .before .before .before .before .before .before .before .before .before .before .before .before .before .before .before .before .before .args .shape .calls))) _ _ (c .before .before .before .before .before .before .before .before .before .before .before .before .before .before .before .before .loop .i) _ _ _ (c .before .before .before .before .before .before .before .before .before .before .before .before .before .who-at .result) _ _ _ (c .before .before .before .before .before .before .before .before .before .before .before .before .before .before .before .before .loop .inv .2) (omega (arith, c .before .before .before .before .before .before .before .before .before .before .before .before .before .before .if1 .taken, listOf-length (c .before .before .before .before .before .before .before .before .before .before .before .before .before .before .before .before .before .before .before .before .args .shape .steps) (whoAt (c .before .before .before .before .before .before .before .before .before .before .before .before .before .before .before .before .before .before .before .before .args .file .now) (c .before .before .before .before .before .before .before .before .before .before .before .before .before .before .before .before .before .before .before .before .args .shape .processes) (c .before .before .before .before .before .before .before .before .before .before .before .before .before .before .before .before .before .before .before .before .args .shape .calls))))
-      (c .before .before .before .before .before .before .before .before .before .before .before .before .before .who-at .ensures ∙ sym (listOf-getD (c .before .before .before .before .before .before .before .before .before .before .before .before .before .before .before .before .before .before .before .before .args .shape .steps) (whoAt (c .before .before .before .before .before .before .before .before .before .before .before .before .before .before .before .before .before .before .before .before .args .file .now) (c .before .before .before .before .before .before .before .before .before .before .before .before .before .before .before .before .before .before .before .before .args .shape .processes) (c .before .before .before .before .before .before .before .before .before .before .before .before .before .before .before .before .before .before .before .before .args .shape .calls)) 0 (c .before .before .before .before .before .before .before .before .before .before .before .before .before .before .before .before .loop .i) (c .before .before .before .before .before .before .before .before .before .before .before .before .before .before .if1 .taken)))
-      (turn-acts (firstCalls (c .before .before .before .before .before .before .before .before .before .before .before .before .before .before .before .before .before .before .before .before .args .file .now) (c .before .before .before .before .before .before .before .before .before .before .before .before .before .before .before .before .before .before .before .before .args .shape .processes) (c .before .before .before .before .before .before .before .before .before .before .before .before .before .before .before .before .before .before .before .before .args .shape .calls)) (c .before .before .before .before .before .before .before .before .before .before .before .before .before .who-at .result) (c .before .before .before .before .before .before .before .before .before .before .before .before .before .before .before .before .loop .after) (processAt (c .before .before .before .before .before .before .before .before .before .before .before .before .before .before .before .before .loop .after) (c .before .before .before .before .before .before .before .before .before .before .before .before .before .who-at .result)) (c .before .before .before .before .before .before .before .before .before .before .before .ready .result) refl (c .before .before .before .before .before .before .before .before .before .before .before .ready .ensures) _ _ _ _ _ _ _ (sym (c .before .before .before .before .before .before .before .before .before .is-idle .ensures) ∙ c .before .before .before .before .before .before .before .before .if2 .left) (c .before .before .before .before .act .ensures)),
-)
-
 mul-before : tie.Need-mul-before Inv-loop μ-loop
 mul-before c = search needs
 
 element-copy-out-before : tie.Need-element-copy-out-before Inv-loop μ-loop
-element-copy-out-before c = omega (arith, c .if3 .left)
+element-copy-out-before c = on-queue-of (c .before .before .before .before .before .before .before .before .before .before .before .before .args .file .now) (c .before .before .before .before .before .before .before .before .before .before .before .before .args .shape) (c .before .before .before .before .before .before .before .before .before .before .before .before .args .schedule .now) (c .before .before .before .before .before .before .before .before .before .before .before .before .pre) (c .before .before .before .before .before .before .before .loop .i) (c .before .before .before .before .before .before .loop-test .taken) (c .before .before .before .before .before .before .before .loop .after) (c .before .before .before .before .before .before .before .loop .inv .2 .0 .counted) _ (c .before .before .before .ready .ensures) _ (c .queue-of .ensures)
 
 mul-owner : tie.Need-mul-owner Inv-loop μ-loop
 mul-owner c = search needs
 
 element-copy-out-owner : tie.Need-element-copy-out-owner Inv-loop μ-loop
-element-copy-out-owner c = omega (arith, c .before .if3 .left)
+element-copy-out-owner c = on-queue-of (c .before .before .before .before .before .before .before .before .before .before .before .before .before .args .file .now) (c .before .before .before .before .before .before .before .before .before .before .before .before .before .args .shape) (c .before .before .before .before .before .before .before .before .before .before .before .before .before .args .schedule .now) (c .before .before .before .before .before .before .before .before .before .before .before .before .before .pre) (c .before .before .before .before .before .before .before .before .loop .i) (c .before .before .before .before .before .before .before .loop-test .taken) (c .before .before .before .before .before .before .before .before .loop .after) (c .before .before .before .before .before .before .before .before .loop .inv .2 .0 .counted) _ (c .before .before .before .before .ready .ensures) _ (c .before .queue-of .ensures)
 
 moves-requires : tie.Need-moves-requires Inv-loop μ-loop
-moves-requires c κs = (omega (arith, c .before .before .before .before .before .before .before .before .before .before .before .before .before .loop .inv .2 .1, c .before .before .before .before .before .before .before .before .before .before .before .before .before .loop .inv .0, c .before .before .before .before .before .before .before .before .before .before .before .before .before .before .before .before .before .pre .3), omega (arith, c .before .before .before .before .before .before .before .before .before .before .before .before .before .loop .inv .2 .1, c .before .before .before .before .before .before .before .before .before .before .before .before .before .loop .inv .0, c .before .before .before .before .before .before .before .before .before .before .before .before .before .before .before .before .before .pre .3, (back-counted (firstCalls (c .before .before .before .before .before .before .before .before .before .before .before .before .before .before .before .before .before .args .file .now) (c .before .before .before .before .before .before .before .before .before .before .before .before .before .before .before .before .before .args .shape .processes) (c .before .before .before .before .before .before .before .before .before .before .before .before .before .before .before .before .before .args .shape .calls)) (c .before .before .before .before .before .before .before .before .before .before .who-at .result) (c .before .before .before .before .before .before .before .before .before .before .before .before .before .loop .after) (processAt (c .before .before .before .before .before .before .before .before .before .before .before .before .before .loop .after) (c .before .before .before .before .before .before .before .before .before .before .who-at .result)) (c .before .before .before .before .before .before .before .before .ready .result) refl (c .before .before .before .before .before .before .before .before .ready .ensures) (c .before .before .before .before .before .before .before .before .before .before .before .before .before .loop .inv .2 .0 .counted))), omega (arith, c .before .before .before .before .before .before .before .before .before .before .before .before .before .loop .inv .2 .1, c .before .before .before .before .before .before .before .before .before .before .before .before .before .loop .inv .0, c .before .before .before .before .before .before .before .before .before .before .before .before .before .before .before .before .before .pre .3, c .before .before .before .before .before .before .before .before .before .before .before .before .before .loop .inv .2 .0 .counted .back (c .before .before .before .before .before .before .before .queue-of .result)), omega (arith, c .before .before .before .before .before .before .before .before .before .before .before .before .before .loop .inv .2 .1, c .before .before .before .before .before .before .before .before .before .before .before .before .before .loop .inv .0, c .before .before .before .before .before .before .before .before .before .before .before .before .before .before .before .before .before .pre .3, c .before .before .before .before .before .before .before .before .before .before .before .before .before .loop .inv .2 .0 .counted .resets (c .before .before .before .before .before .before .before .queue-of .result)), c .before .before .before .before .before .before .before .before .before .before .before .before .before .loop .inv .1)
+moves-requires c κs =
+    let s = c .before .before .before .before .before .before .before .before .before .before .before .before .before .before .before .before in
+    let l = c .before .before .before .before .before .before .before .before .before .before .before .loop in
+    let p = getD (s .args .schedule .now) (l .i) 0 in
+    let few = c .before .before .before .before .before .before .before .before .before .before .loop-test .taken in
+    let counted = l .inv .2 .0 .counted in
+    let back = back-counted (callsOf (s .args .file .now) (s .args .shape)) p (l .after) (processAt (l .after) p) (c .before .before .before .before .before .before .before .ready .result) refl (c .before .before .before .before .before .before .before .ready .ensures) counted in (
+      omega (arith, l .inv .2 .1, few, s .pre .few),
+      omega (arith, l .inv .2 .1, few, s .pre .few, back),
+      omega (arith, l .inv .2 .1, few, s .pre .few, counted .back (c .before .before .before .before .queue-of .result)),
+      omega (arith, l .inv .2 .1, few, s .pre .few, counted .resets (c .before .before .before .before .queue-of .result)),
+      l .inv .1,
+    )
 
 mul-changed : tie.Need-mul-changed Inv-loop μ-loop
 mul-changed c = search needs
 
 element-set-from-changed : tie.Need-element-set-from-changed Inv-loop μ-loop
-element-set-from-changed c = omega (arith, c .before .before .before .before .before .before .before .before .before .before .before .if3 .left)
+element-set-from-changed c = on-queue-of (c .before .before .before .before .before .before .before .before .before .before .before .before .before .before .before .before .before .before .before .before .before .before .before .args .file .now) (c .before .before .before .before .before .before .before .before .before .before .before .before .before .before .before .before .before .before .before .before .before .before .before .args .shape) (c .before .before .before .before .before .before .before .before .before .before .before .before .before .before .before .before .before .before .before .before .before .before .before .args .schedule .now) (c .before .before .before .before .before .before .before .before .before .before .before .before .before .before .before .before .before .before .before .before .before .before .before .pre) (c .before .before .before .before .before .before .before .before .before .before .before .before .before .before .before .before .before .before .loop .i) (c .before .before .before .before .before .before .before .before .before .before .before .before .before .before .before .before .before .loop-test .taken) (c .before .before .before .before .before .before .before .before .before .before .before .before .before .before .before .before .before .before .loop .after) (c .before .before .before .before .before .before .before .before .before .before .before .before .before .before .before .before .before .before .loop .inv .2 .0 .counted) _ (c .before .before .before .before .before .before .before .before .before .before .before .before .before .before .ready .ensures) _ (c .before .before .before .before .before .before .before .before .before .before .before .queue-of .ensures)
 
 mul-process : tie.Need-mul-process Inv-loop μ-loop
-mul-process c = search needs
+mul-process c = omega (arith, c .before .before .before .before .before .before .before .before .before .before .before .before .before .before .before .before .before .before .before .before .before .before .before .pre .below (c .before .before .before .before .before .before .before .before .before .before .before .before .before .before .before .before .before .before .loop .i) (c .before .before .before .before .before .before .before .before .before .before .before .before .before .before .before .before .before .loop-test .taken))
 
 element-set-from-process : tie.Need-element-set-from-process Inv-loop μ-loop
-element-set-from-process c = omega (arith, (c .before .before .before .before .before .before .before .before .before .before .before .before .before .before .before .before .before .before .before .before .before .before .before .before .pre .4 (c .before .before .before .before .before .before .before .before .before .before .before .before .before .before .before .before .before .before .before .before .loop .i) (c .before .before .before .before .before .before .before .before .before .before .before .before .before .before .before .before .before .before .if1 .taken)), c .before .before .before .before .before .before .before .before .before .before .before .before .before .before .before .before .before .who-at .ensures)
-
-add-after : tie.Need-add-after Inv-loop μ-loop
-add-after c = omega (arith, c .before .before .before .before .before .before .before .before .before .before .before .before .before .before .before .before .before .before .before .before .before .loop .inv .2 .1, c .before .before .before .before .before .before .before .before .before .before .before .before .before .before .before .before .before .before .before .before .before .loop .inv .0, c .before .before .before .before .before .before .before .before .before .before .before .before .before .before .before .before .before .before .before .before .before .before .before .before .before .pre .3, c .before .before .before .before .before .before .before .before .before .before .before .before .before .before .before .before .before .before .before .before .before .loop .inv .2 .0 .counted .entries, (moved-more _ _ _ _ _ _ _ _ _ _ _ _ _ _ (c .before .before .before .before .before .before .before .moves .ensures)))
+element-set-from-process c = c .before .before .before .before .before .before .before .before .before .before .before .before .before .before .before .before .before .before .before .before .before .before .before .pre .below (c .before .before .before .before .before .before .before .before .before .before .before .before .before .before .before .before .before .before .loop .i) (c .before .before .before .before .before .before .before .before .before .before .before .before .before .before .before .before .before .loop-test .taken)
 
 add-after-2 : tie.Need-add-after-2 Inv-loop μ-loop
-add-after-2 c = omega (arith, c .before .before .before .before .before .before .before .before .before .before .before .before .before .before .before .before .before .before .before .before .before .loop .inv .2 .1, c .before .before .before .before .before .before .before .before .before .before .before .before .before .before .before .before .before .before .before .before .before .loop .inv .0, c .before .before .before .before .before .before .before .before .before .before .before .before .before .before .before .before .before .before .before .before .before .before .before .before .before .pre .3)
+add-after-2 c = omega (arith, c .before .before .before .before .before .before .before .before .before .before .before .before .before .before .before .before .before .before .before .loop .inv .2 .1, c .before .before .before .before .before .before .before .before .before .before .before .before .before .before .before .before .before .before .loop-test .taken, c .before .before .before .before .before .before .before .before .before .before .before .before .before .before .before .before .before .before .before .before .before .before .before .before .pre .few, c .before .before .before .before .before .before .before .before .before .before .before .before .before .before .before .before .before .before .before .loop .inv .2 .0 .counted .entries, moved-more _ _ _ _ _ _ _ _ _ _ _ _ _ _ (c .before .before .before .before .before .before .before .moves .ensures))
 
 add-after-3 : tie.Need-add-after-3 Inv-loop μ-loop
-add-after-3 c = omega (arith, c .before .before .before .before .before .before .before .before .before .before .before .before .before .before .before .before .before .before .before .before .before .before .loop .inv .2 .1, c .before .before .before .before .before .before .before .before .before .before .before .before .before .before .before .before .before .before .before .before .before .before .loop .inv .0, c .before .before .before .before .before .before .before .before .before .before .before .before .before .before .before .before .before .before .before .before .before .before .before .before .before .before .pre .3, c .before .before .before .before .before .before .before .before .before .before .before .before .before .before .before .before .before .before .before .before .before .before .loop .inv .2 .0 .counted .gone, (moved-gone _ _ _ _ _ _ _ _ _ _ _ _ _ _ (c .before .before .before .before .before .before .before .before .moves .ensures)))
+add-after-3 c = omega (arith, c .before .before .before .before .before .before .before .before .before .before .before .before .before .before .before .before .before .before .before .before .loop .inv .2 .1, c .before .before .before .before .before .before .before .before .before .before .before .before .before .before .before .before .before .before .before .loop-test .taken, c .before .before .before .before .before .before .before .before .before .before .before .before .before .before .before .before .before .before .before .before .before .before .before .before .before .pre .few, c .before .before .before .before .before .before .before .before .before .before .before .before .before .before .before .before .before .before .before .before .loop .inv .2 .0 .counted .gone, moved-gone _ _ _ _ _ _ _ _ _ _ _ _ _ _ (c .before .before .before .before .before .before .before .before .moves .ensures))
 
-add-i-3 : tie.Need-add-i-3 Inv-loop μ-loop
-add-i-3 c = omega (arith, c .before .before .before .before .before .before .before .before .before .before .before .before .before .before .before .before .before .before .before .before .before .if1 .taken, c .before .before .before .before .before .before .before .before .before .before .before .before .before .before .before .before .before .before .before .before .before .before .before .before .before .before .before .pre .3)
+loop-less-2 : tie.Need-loop-less-2 Inv-loop μ-loop
+loop-less-2 c = omega (arith, c .before .before .before .before .before .before .before .before .before .before .before .before .before .before .before .before .before .before .before .before .loop-test .taken)
 
-loop-less-3 : tie.Need-loop-less-3 Inv-loop μ-loop
-loop-less-3 c = omega (arith, c .before .before .before .before .before .before .before .before .before .before .before .before .before .before .before .before .before .before .before .before .before .if1 .taken)
-
-loop-again-3 : tie.Need-loop-again-3 Inv-loop μ-loop
-loop-again-3 c = (
-  omega (arith, c .before .before .before .before .before .before .before .before .before .before .before .before .before .before .before .before .before .before .before .before .before .if1 .taken),
-  omega (arith, c .before .before .before .before .before .before .before .before .slots2 .given, c .before .before .before .before .before .before .before .before .before .before .before .before .before .before .before .before .before .before .before .before .before .before .before .loop .inv .1),
-  played-next _ _ _ (firstCalls (c .before .before .before .before .before .before .before .before .before .before .before .before .before .before .before .before .before .before .before .before .before .before .before .before .before .before .before .args .file .now) (c .before .before .before .before .before .before .before .before .before .before .before .before .before .before .before .before .before .before .before .before .before .before .before .before .before .before .before .args .shape .processes) (c .before .before .before .before .before .before .before .before .before .before .before .before .before .before .before .before .before .before .before .before .before .before .before .before .before .before .before .args .shape .calls)) (listOf (c .before .before .before .before .before .before .before .before .before .before .before .before .before .before .before .before .before .before .before .before .before .before .before .before .before .before .before .args .shape .steps) (whoAt (c .before .before .before .before .before .before .before .before .before .before .before .before .before .before .before .before .before .before .before .before .before .before .before .before .before .before .before .args .file .now) (c .before .before .before .before .before .before .before .before .before .before .before .before .before .before .before .before .before .before .before .before .before .before .before .before .before .before .before .args .shape .processes) (c .before .before .before .before .before .before .before .before .before .before .before .before .before .before .before .before .before .before .before .before .before .before .before .before .before .before .before .args .shape .calls))) _ _ (c .before .before .before .before .before .before .before .before .before .before .before .before .before .before .before .before .before .before .before .before .before .before .before .loop .i) _ _ _ (c .before .before .before .before .before .before .before .before .before .before .before .before .before .before .before .before .before .before .before .before .who-at .result) _ _ _ (c .before .before .before .before .before .before .before .before .before .before .before .before .before .before .before .before .before .before .before .before .before .before .before .loop .inv .2) (omega (arith, c .before .before .before .before .before .before .before .before .before .before .before .before .before .before .before .before .before .before .before .before .before .if1 .taken, listOf-length (c .before .before .before .before .before .before .before .before .before .before .before .before .before .before .before .before .before .before .before .before .before .before .before .before .before .before .before .args .shape .steps) (whoAt (c .before .before .before .before .before .before .before .before .before .before .before .before .before .before .before .before .before .before .before .before .before .before .before .before .before .before .before .args .file .now) (c .before .before .before .before .before .before .before .before .before .before .before .before .before .before .before .before .before .before .before .before .before .before .before .before .before .before .before .args .shape .processes) (c .before .before .before .before .before .before .before .before .before .before .before .before .before .before .before .before .before .before .before .before .before .before .before .before .before .before .before .args .shape .calls))))
-      (c .before .before .before .before .before .before .before .before .before .before .before .before .before .before .before .before .before .before .before .before .who-at .ensures ∙ sym (listOf-getD (c .before .before .before .before .before .before .before .before .before .before .before .before .before .before .before .before .before .before .before .before .before .before .before .before .before .before .before .args .shape .steps) (whoAt (c .before .before .before .before .before .before .before .before .before .before .before .before .before .before .before .before .before .before .before .before .before .before .before .before .before .before .before .args .file .now) (c .before .before .before .before .before .before .before .before .before .before .before .before .before .before .before .before .before .before .before .before .before .before .before .before .before .before .before .args .shape .processes) (c .before .before .before .before .before .before .before .before .before .before .before .before .before .before .before .before .before .before .before .before .before .before .before .before .before .before .before .args .shape .calls)) 0 (c .before .before .before .before .before .before .before .before .before .before .before .before .before .before .before .before .before .before .before .before .before .before .before .loop .i) (c .before .before .before .before .before .before .before .before .before .before .before .before .before .before .before .before .before .before .before .before .before .if1 .taken)))
-      (turn-acts (firstCalls (c .before .before .before .before .before .before .before .before .before .before .before .before .before .before .before .before .before .before .before .before .before .before .before .before .before .before .before .args .file .now) (c .before .before .before .before .before .before .before .before .before .before .before .before .before .before .before .before .before .before .before .before .before .before .before .before .before .before .before .args .shape .processes) (c .before .before .before .before .before .before .before .before .before .before .before .before .before .before .before .before .before .before .before .before .before .before .before .before .before .before .before .args .shape .calls)) (c .before .before .before .before .before .before .before .before .before .before .before .before .before .before .before .before .before .before .before .before .who-at .result) (c .before .before .before .before .before .before .before .before .before .before .before .before .before .before .before .before .before .before .before .before .before .before .before .loop .after) (processAt (c .before .before .before .before .before .before .before .before .before .before .before .before .before .before .before .before .before .before .before .before .before .before .before .loop .after) (c .before .before .before .before .before .before .before .before .before .before .before .before .before .before .before .before .before .before .before .before .who-at .result)) (c .before .before .before .before .before .before .before .before .before .before .before .before .before .before .before .before .before .before .ready .result) refl (c .before .before .before .before .before .before .before .before .before .before .before .before .before .before .before .before .before .before .ready .ensures) _ _ _ _ _ _ _ (sym (c .before .before .before .before .before .before .before .before .before .before .before .before .before .before .before .before .is-idle .ensures) ∙ c .before .before .before .before .before .before .before .before .before .before .before .before .before .before .before .if2 .left) (moves-become _ _ _ _ _ _ _ (c .before .before .before .before .before .before .before .before .before .before .before .before .before .before .before .before .before .before .before .before .before .before .before .loop .after) _ _ _ _ _ _ (c .before .before .before .before .before .before .before .before .before .moves .ensures) (c .before .before .before .before .before .before .before .before .before .before .before .before .before .before .before .before .before .queue-of .ensures) refl refl refl)),
-)
+loop-again-2 : tie.Need-loop-again-2 Inv-loop μ-loop
+loop-again-2 c =
+    let s = c .before .before .before .before .before .before .before .before .before .before .before .before .before .before .before .before .before .before .before .before .before .before .before .before .before .before in
+    let l = c .before .before .before .before .before .before .before .before .before .before .before .before .before .before .before .before .before .before .before .before .before .loop in
+    let calls = callsOf (s .args .file .now) (s .args .shape) in
+    let p = getD (s .args .schedule .now) (l .i) 0 in (
+      omega (arith, c .before .before .before .before .before .before .before .before .before .before .before .before .before .before .before .before .before .before .before .before .loop-test .taken),
+      omega (arith, c .before .before .before .before .before .before .before .before .slots .given, l .inv .1),
+      played-next _ _ _ calls (s .args .schedule .now) _ _ (l .i) _ _ _ (calls-aimed (s .args .file .now) (s .args .shape .processes) (s .args .shape .calls) (s .pre .processes)) p _ _ _ (l .inv .2) (c .before .before .before .before .before .before .before .before .before .before .before .before .before .before .before .before .before .before .before .before .loop-test .taken) refl
+          (turn-acts calls p (l .after) (processAt (l .after) p) (c .before .before .before .before .before .before .before .before .before .before .before .before .before .before .before .before .before .ready .result) refl (c .before .before .before .before .before .before .before .before .before .before .before .before .before .before .before .before .before .ready .ensures) _ _ _ _ _ _ _ (sym (c .before .before .before .before .before .before .before .before .before .before .before .before .before .before .before .before .is-idle .ensures) ∙ c .before .before .before .before .before .before .before .before .before .before .before .before .before .before .before .if1 .left)
+          (moves-become _ _ _ _ _ _ _ (l .after) _ _ _ _ _ _ (c .before .before .before .before .before .before .before .before .before .moves .ensures) (c .before .before .before .before .before .before .before .before .before .before .before .before .before .before .queue-of .ensures) refl refl refl)),
+    )
 
 same-length : tie.Need-same-length Inv-loop μ-loop
-same-length c = c .before .before .loop .inv .1 ∙ sym (c .before .before .before .before .before .before .pre .2)
+same-length c = c .before .loop .inv .1 ∙ sym (c .before .before .before .before .before .before .pre .all-slots)
 
 same-length-2 : tie.Need-same-length-2 Inv-loop μ-loop
-same-length-2 c = along-length _ _ _ _ _ _ _ (c .before .before .loop .inv .2 .0)
+same-length-2 c = along-length _ _ _ _ _ _ _ (c .before .loop .inv .2 .0)
 
 returns : tie.Need-returns Inv-loop μ-loop
-returns c = played-all _ _ _ (firstCalls (c .before .before .before .before .before .before .args .file .now) (c .before .before .before .before .before .before .args .shape .processes) (c .before .before .before .before .before .before .args .shape .calls)) (listOf (c .before .before .before .before .before .before .args .shape .steps) (whoAt (c .before .before .before .before .before .before .args .file .now) (c .before .before .before .before .before .before .args .shape .processes) (c .before .before .before .before .before .before .args .shape .calls))) _ _ _ _ _ _ (c .before .before .loop .inv .2) (omega (arith, c .if1 .left, listOf-length (c .before .before .before .before .before .before .args .shape .steps) (whoAt (c .before .before .before .before .before .before .args .file .now) (c .before .before .before .before .before .before .args .shape .processes) (c .before .before .before .before .before .before .args .shape .calls))))
+returns c =
+    let s = c .before .before .before .before .before .before in
+    played-all _ _ _ (callsOf (s .args .file .now) (s .args .shape)) (s .args .schedule .now) _ _ _ _ _ _ (c .before .loop .inv .2) (c .loop-test .left)
 
 pub play-spec : {M : Type 1} → statement M
 play-spec =
@@ -153,22 +168,18 @@ play-spec =
     Inv-loop
     μ-loop
     loop-holds
-    who-at-requires
+    shared-slice-read-p
     cast-at
     mul-waiting
     element-copy-out-waiting
     ready-requires
-    queue-of-requires
-    cast-on
-    is-idle-requires
-    add-counted
+    add-after
     add-i
+    is-idle-requires
     loop-less
     loop-again
-    act-requires
-    add-i-2
-    loop-less-2
-    loop-again-2
+    queue-of-requires
+    cast-on
     mul-before
     element-copy-out-before
     mul-owner
@@ -178,12 +189,10 @@ play-spec =
     element-set-from-changed
     mul-process
     element-set-from-process
-    add-after
     add-after-2
     add-after-3
-    add-i-3
-    loop-less-3
-    loop-again-3
+    loop-less-2
+    loop-again-2
     same-length
     same-length-2
     returns)
