@@ -8,3 +8,4 @@ pub mod Step
 pub mod StepLaws
 pub mod Worked
 pub mod Settled
+pub mod Desk

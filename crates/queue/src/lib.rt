@@ -3,6 +3,7 @@
 ghost use mathlib.Core.Path.{_≡_};
 ghost use Rattle.queue.specs.Step.{loadedSlot, loaded, stored, stepOf, StepOn};
 
+pub mod desk; // one queue stepped by hand
 pub mod range; // what can be stepped
 mod rows; // the rows of the table
 pub mod stages; // where a stage stands
