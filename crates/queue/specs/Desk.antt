@@ -8,8 +8,8 @@ use Rattle.queue.specs.declared.Stage.{Stage}
 use Rattle.queue.specs.declared.Stage.the-variants.{Idle}
 use Rattle.queue.specs.declared.Next.{Next}
 use Rattle.queue.specs.declared.Next.the-variants as next
-use Rattle.queue.specs.declared.Answer.{Answer}
-use Rattle.queue.specs.declared.Answer.the-variants.{Going, Done, Node, Nil, Full, Refused}
+use Rattle.queue.specs.declared.desk.Answer.{Answer}
+use Rattle.queue.specs.declared.desk.Answer.the-variants.{Going, Done, Node, Nil, Full, Refused}
 
 abbrev pub answerOf : Stage → Next → Answer
 answerOf s (next.Going z) = Going z
