@@ -22,3 +22,6 @@ pub mod Programs
 pub mod WorkedRuns
 pub mod ShutOut
 pub mod SameStep
+pub mod Replay
+pub mod ReplayStep
+pub mod ReplayLaws
