@@ -14,7 +14,7 @@ use Rattle.runfile.specs.declared.Call.{Call}
 use Rattle.runfile.specs.declared.Call.the-variants.{Push, Pop, Take, Wrong}
 use Rattle.runfile.specs.declared.Shape.{Shape}
 use Rattle.bench.specs.State.{State, queueAt, processAt}
-use Rattle.bench.specs.Moment.{ended, goneRound}
+use Rattle.bench.specs.Moment.{queueOf, ended, goneRound}
 use Rattle.bench.specs.Turn.{queueAfter, processAfter, isRefused, entriesIn, count}
 use Rattle.bench.specs.declared.Bench.{Bench}
 use Rattle.bench.specs.declared.Ended.{Ended}
@@ -83,11 +83,11 @@ pub record ToClose (shape : Shape) (b : Bench) (flat : List ℕ) : Type 0 where
   pub all-slots : length flat ≡ 512
   pub processes : shape .processes ≤ 8
 
--- what step n of process p on queue q changes: r, before and owner are the records of the process, of the queue and of the queue's owner
-pub record Moves (W C p q n entries : ℕ) (r : Process) (before : Queue) (owner : Process) (flat log : List ℕ) (m : Moved) (flat′ log′ : List ℕ) : Type 0 where
+-- what step n of process p changes: r, before and owner are the records of the process, of its call's queue and of the queue's owner
+pub record Moves (W C p n entries : ℕ) (r : Process) (before : Queue) (owner : Process) (flat log : List ℕ) (m : Moved) (flat′ log′ : List ℕ) : Type 0 where
   pub step : Stepped
   pub over : Ended
-  pub slots : StepsIn W C (before .word) flat q (r .stage) step flat′
+  pub slots : StepsIn W C (before .word) flat (queueOf p (r .call)) (r .stage) step flat′
   pub ends : over ≡ ended p n r owner (before .word .top) (step .next)
   pub bytes : log′ ≡ putEntries entries (entriesIn over) log
   pub queue : m .queue ≡ queueAfter before step

@@ -144,6 +144,9 @@ module _ (W C : ℕ) (w : Word) (flat : List ℕ) (q : ℕ) (z : Stage) (r : Ste
     slots = rw (no-size W C w (getD (slotsIn C flat) q []) z h) (sym (set-getD (slotsIn C flat) q []));
   }
 
+  pub on-same : (i : ℕ) (flat′ : List ℕ) → q ≡ i → StepsIn W C w flat q z r flat′ → StepsIn W C w flat i z r flat′
+  on-same i flat′ e h = subst (λ (j : ℕ). StepsIn W C w flat j z r flat′) e h
+
   stored-length : (xs : List ℕ) (o : Store) → length (stored xs o) ≡ length xs
   stored-length xs store.Nothing = refl
   stored-length xs (store.Slot at node) = length-set xs at node
@@ -204,19 +207,20 @@ module _ (calls : List Call) (p : ℕ) (b : Bench) (w r : Process) (e : w ≡ pr
     turn-acts flat′ log′ i h = record { bench = rw (← now, i) (h .bench); slots = rw (← now, i) (h .slots); bytes = rw (← now, i) (h .bytes) }
 
 -- the counts grow by at most 1, and the bench with what was changed is the bench after the step
-module _ (W C p q n entries : ℕ) (r : Process) (before : Queue) (owner : Process) (flat log : List ℕ) (m : Moved) (flat′ log′ : List ℕ)
-    (v : Moves W C p q n entries r before owner flat log m flat′ log′) where
+module _ (W C p n entries : ℕ) (r : Process) (before : Queue) (owner : Process) (flat log : List ℕ) (m : Moved) (flat′ log′ : List ℕ)
+    (v : Moves W C p n entries r before owner flat log m flat′ log′) where
   pub moved-more : m .more ≤ 1
   moved-more = omega (arith, v .more, count-most (v .over))
 
   pub moved-gone : m .gone ≤ 1
   moved-gone = omega (arith, v .gone, gone-most r (before .resets) (v .step .next))
 
-pub moves-become : (W C p q : ℕ) (r : Process) (before : Queue) (owner : Process) (b : Bench) (flat log : List ℕ) (m : Moved) (flat′ log′ : List ℕ) (b′ : Bench)
-    → Moves W C p q (b .steps) (b .entries) r before owner flat log m flat′ log′ → q ≡ queueOf p (r .call) → before ≡ queueAt b q → owner ≡ processAt b q → b′ ≡ movedBench b p q m
+pub moves-become : (W C p : ℕ) (r : Process) (before : Queue) (owner : Process) (b : Bench) (flat log : List ℕ) (m : Moved) (flat′ log′ : List ℕ) (b′ : Bench) (q : ℕ)
+    → Moves W C p (b .steps) (b .entries) r before owner flat log m flat′ log′ → q ≡ queueOf p (r .call) → before ≡ queueAt b q → owner ≡ processAt b q → b′ ≡ movedBench b p q m
     → Becomes C (b .entries) log (act W C p r (stateIn C b flat)) b′ flat′ log′
-moves-become W C p q r before owner b flat log m flat′ log′ b′ v e f g d =
-    act-becomes W C p r b flat log q before owner (v .step) (v .over) b′ flat′ log′ e f g (v .slots) (v .ends) (v .bytes) (d ∙ same)
+moves-become W C p r before owner b flat log m flat′ log′ b′ q v e f g d =
+    act-becomes W C p r b flat log q before owner (v .step) (v .over) b′ flat′ log′ e f g
+    (on-same W C (before .word) flat (queueOf p (r .call)) (r .stage) (v .step) q flat′ (sym e) (v .slots)) (v .ends) (v .bytes) (d ∙ same)
   where
     same : movedBench b p q m ≡ benchAfter b p q r (v .step) (v .over)
     same = λ i. record {

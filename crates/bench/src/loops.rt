@@ -41,23 +41,10 @@ pub(crate) fn play(
             continue;
         }
         let call = of.call;
-        let q = queue_of(p, call);
-        let on = q as usize;
+        let on = queue_of(p, call) as usize;
         let before = after.queues[on];
         let owner = after.processes[on];
-        let moved = moves(
-            shape.width,
-            shape.size,
-            slots,
-            log,
-            p,
-            q,
-            n,
-            after.entries,
-            of,
-            before,
-            owner,
-        );
+        let moved = moves(shape, slots, log, p, n, after.entries, of, before, owner);
         let changed = moved.queue;
         let process = moved.process;
         after.queues[on] = changed;

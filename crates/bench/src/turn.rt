@@ -172,14 +172,12 @@ pub(crate) struct Moved {
     pub refused: bool,
 }
 
-// Step n of process p on queue q: of, before and owner are the records of the process, of the queue and of the queue's owner.
+// Step n of process p, after so many entries: of, before and owner are the records of the process, of its call's queue and of the queue's owner.
 pub(crate) fn moves(
-    width: u8,
-    size: u8,
+    shape: Shape,
     slots: &mut [u16],
     log: &mut [u8],
     p: u8,
-    q: u8,
     n: u16,
     entries: u16,
     of: Process,
@@ -187,11 +185,13 @@ pub(crate) fn moves(
     owner: Process,
 ) -> Moved
     requires { ⌜ (n ≤ 8191) × (of .back ≤ 8191) × (owner .back ≤ 8191) × (before .resets ≤ 8191) × (length (now slots) ≡ 512) ⌝ }
-    ensures { λ r. ⌜ Moves width size p q n entries of before owner (now (slots .entry)) (now (log .entry)) r (now (slots .exit)) (now (log .exit)) ⌝ }
+    ensures { λ r. ⌜ Moves (shape .width) (shape .size) p n entries of before owner (now (slots .entry)) (now (log .entry)) r (now (slots .exit)) (now (log .exit)) ⌝ }
 {
     let stage = of.stage;
+    let call = of.call;
     let word = before.word;
-    let stepped = step_slots(width, size, word, slots, q, stage);
+    let q = moment::queue_of(p, call);
+    let stepped = step_slots(shape.width, shape.size, word, slots, q, stage);
     let next = stepped.next;
     let over = moment::ended(p, n, of, owner, word.top, next);
     keep(log, entries, over);

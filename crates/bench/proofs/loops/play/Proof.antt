@@ -129,10 +129,10 @@ element-set-from-process : tie.Need-element-set-from-process Inv-loop μ-loop
 element-set-from-process c = c .before .before .before .before .before .before .before .before .before .before .before .before .before .before .before .before .before .before .before .before .before .before .before .pre .below (c .before .before .before .before .before .before .before .before .before .before .before .before .before .before .before .before .before .before .loop .i) (c .before .before .before .before .before .before .before .before .before .before .before .before .before .before .before .before .before .loop-test .taken)
 
 add-after-2 : tie.Need-add-after-2 Inv-loop μ-loop
-add-after-2 c = omega (arith, c .before .before .before .before .before .before .before .before .before .before .before .before .before .before .before .before .before .before .before .loop .inv .2 .1, c .before .before .before .before .before .before .before .before .before .before .before .before .before .before .before .before .before .before .loop-test .taken, c .before .before .before .before .before .before .before .before .before .before .before .before .before .before .before .before .before .before .before .before .before .before .before .before .pre .few, c .before .before .before .before .before .before .before .before .before .before .before .before .before .before .before .before .before .before .before .loop .inv .2 .0 .counted .entries, moved-more _ _ _ _ _ _ _ _ _ _ _ _ _ _ (c .before .before .before .before .before .before .before .moves .ensures))
+add-after-2 c = omega (arith, c .before .before .before .before .before .before .before .before .before .before .before .before .before .before .before .before .before .before .before .loop .inv .2 .1, c .before .before .before .before .before .before .before .before .before .before .before .before .before .before .before .before .before .before .loop-test .taken, c .before .before .before .before .before .before .before .before .before .before .before .before .before .before .before .before .before .before .before .before .before .before .before .before .pre .few, c .before .before .before .before .before .before .before .before .before .before .before .before .before .before .before .before .before .before .before .loop .inv .2 .0 .counted .entries, moved-more _ _ _ _ _ _ _ _ _ _ _ _ _ (c .before .before .before .before .before .before .before .moves .ensures))
 
 add-after-3 : tie.Need-add-after-3 Inv-loop μ-loop
-add-after-3 c = omega (arith, c .before .before .before .before .before .before .before .before .before .before .before .before .before .before .before .before .before .before .before .before .loop .inv .2 .1, c .before .before .before .before .before .before .before .before .before .before .before .before .before .before .before .before .before .before .before .loop-test .taken, c .before .before .before .before .before .before .before .before .before .before .before .before .before .before .before .before .before .before .before .before .before .before .before .before .before .pre .few, c .before .before .before .before .before .before .before .before .before .before .before .before .before .before .before .before .before .before .before .before .loop .inv .2 .0 .counted .gone, moved-gone _ _ _ _ _ _ _ _ _ _ _ _ _ _ (c .before .before .before .before .before .before .before .before .moves .ensures))
+add-after-3 c = omega (arith, c .before .before .before .before .before .before .before .before .before .before .before .before .before .before .before .before .before .before .before .before .loop .inv .2 .1, c .before .before .before .before .before .before .before .before .before .before .before .before .before .before .before .before .before .before .before .loop-test .taken, c .before .before .before .before .before .before .before .before .before .before .before .before .before .before .before .before .before .before .before .before .before .before .before .before .before .pre .few, c .before .before .before .before .before .before .before .before .before .before .before .before .before .before .before .before .before .before .before .before .loop .inv .2 .0 .counted .gone, moved-gone _ _ _ _ _ _ _ _ _ _ _ _ _ (c .before .before .before .before .before .before .before .before .moves .ensures))
 
 loop-less-2 : tie.Need-loop-less-2 Inv-loop μ-loop
 loop-less-2 c = omega (arith, c .before .before .before .before .before .before .before .before .before .before .before .before .before .before .before .before .before .before .before .before .loop-test .taken)
@@ -147,7 +147,7 @@ loop-again-2 c =
       omega (arith, c .before .before .before .before .before .before .before .before .slots .given, l .inv .1),
       played-next _ _ _ calls (s .args .schedule .now) _ _ (l .i) _ _ _ (calls-aimed (s .args .file .now) (s .args .shape .processes) (s .args .shape .calls) (s .pre .processes)) p _ _ _ (l .inv .2) (c .before .before .before .before .before .before .before .before .before .before .before .before .before .before .before .before .before .before .before .before .loop-test .taken) refl
           (turn-acts calls p (l .after) (processAt (l .after) p) (c .before .before .before .before .before .before .before .before .before .before .before .before .before .before .before .before .before .ready .result) refl (c .before .before .before .before .before .before .before .before .before .before .before .before .before .before .before .before .before .ready .ensures) _ _ _ _ _ _ _ (sym (c .before .before .before .before .before .before .before .before .before .before .before .before .before .before .before .before .is-idle .ensures) ∙ c .before .before .before .before .before .before .before .before .before .before .before .before .before .before .before .if1 .left)
-          (moves-become _ _ _ _ _ _ _ (l .after) _ _ _ _ _ _ (c .before .before .before .before .before .before .before .before .before .moves .ensures) (c .before .before .before .before .before .before .before .before .before .before .before .before .before .before .queue-of .ensures) refl refl refl)),
+          (moves-become _ _ _ _ _ _ (l .after) _ _ _ _ _ _ _ (c .before .before .before .before .before .before .before .before .before .moves .ensures) (c .before .before .before .before .before .before .before .before .before .before .before .before .before .before .queue-of .ensures) refl refl refl)),
     )
 
 same-length : tie.Need-same-length Inv-loop μ-loop
