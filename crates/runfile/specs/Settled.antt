@@ -4,7 +4,7 @@ use mathlib.Core.List.{List}
 use Prim.Native.Nat.{ℕ}
 use Rattle.runfile.specs.declared.Call.{Call}
 use Rattle.runfile.specs.declared.Reading.{Reading}
-use Rattle.runfile.specs.File.{lengthAt, callsBefore, callAt, whoAt, fileOf, readingOf}
+use Rattle.runfile.specs.File.{lengthAt, callsBefore, callAt, stepPlace, whoAt, fileOf, readingOf}
 
 one : {A : Type 0} (x r q : A) → r ≡ x → q ≡ x → r ≡ q
 one x r q e d = e ∙ sym d
@@ -20,6 +20,9 @@ call-at s processes k = one (callAt s processes k)
 
 pub who-at : (s : List ℕ) (processes calls k r q : ℕ) → r ≡ whoAt s processes calls k → q ≡ whoAt s processes calls k → r ≡ q
 who-at s processes calls k = one (whoAt s processes calls k)
+
+pub schedule-place : (processes calls r q : ℕ) → r ≡ stepPlace processes calls 0 → q ≡ stepPlace processes calls 0 → r ≡ q
+schedule-place processes calls = one (stepPlace processes calls 0)
 
 pub read : (s : List ℕ) (r q : Reading) → r ≡ readingOf (fileOf s) → q ≡ readingOf (fileOf s) → r ≡ q
 read s = one (readingOf (fileOf s))
