@@ -4,7 +4,7 @@ use mathlib.Core.List.{List, [], _∷_, _++_, map}
 use Prim.Native.Nat.{ℕ}
 use lib.ListN.{replicate}
 use Rattle.runfile.specs.declared.Call.the-variants.{Push, Pop, Take, Wrong}
-use Rattle.runfile.specs.File.{good, fileOf, readingOf, numberIn, lengthAt, callsBefore, callAt, whoAt}
+use Rattle.runfile.specs.File.{good, fileOf, readingOf, numberIn, lengthAt, callsBefore, callAt, stepPlace, whoAt}
 use Rattle.runfile.specs.Encode.{callsBytes}
 
 pub record Case : Type 0 where
@@ -127,5 +127,5 @@ k1-file = 2 ∷ 8 ∷ 4 ∷ 2 ∷ 2 ∷ 1 ∷ 0 ∷ 3 ∷ 1 ∷ 0 ∷ 7 ∷ 2 �
 
 accessed : (lengthAt k1-file 0 ≡ 2) × (lengthAt k1-file 1 ≡ 1) × (callsBefore k1-file 0 ≡ 0) × (callsBefore k1-file 1 ≡ 2)
     × (callAt k1-file 2 0 ≡ Push 7) × (callAt k1-file 2 1 ≡ Pop) × (callAt k1-file 2 2 ≡ Take 0) × (callAt k1-file 2 99 ≡ Wrong 4)
-    × (whoAt k1-file 2 3 2 ≡ 0) × (whoAt k1-file 2 3 3 ≡ 1) × (whoAt k1-file 2 3 99 ≡ 0)
-accessed = (refl, refl, refl, refl, refl, refl, refl, refl, refl, refl, refl)
+    × (whoAt k1-file 2 3 2 ≡ 0) × (whoAt k1-file 2 3 3 ≡ 1) × (whoAt k1-file 2 3 99 ≡ 0) × (stepPlace 2 3 0 ≡ 19)
+accessed = (refl, refl, refl, refl, refl, refl, refl, refl, refl, refl, refl, refl)
