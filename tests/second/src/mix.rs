@@ -1,0 +1,55 @@
+//! What the cases came to on this side, for a person to see that every number occurs.
+
+use crate::cases::Case;
+use second::log::{length, MOST};
+use std::fmt;
+
+#[derive(Default)]
+pub struct Mix {
+    runs: [usize; 10],
+    judged: [usize; 20],
+    gone_round: usize,
+    /// A run without gone-round takes whose log the judge found fault with: there must be none.
+    pub faulted: Option<Case>,
+}
+
+impl Mix {
+    pub fn add_log(&mut self, log: &[u8]) {
+        self.judged[second::judge(log).0 as usize] += 1;
+    }
+
+    /// Gives the log of a run that was accepted.
+    pub fn add_run(&mut self, room: usize, file: &[u8]) -> Option<Vec<u8>> {
+        let mut log = vec![0; room.min(length(MOST))];
+        let (mut report, mut table) = ([0; 4], [0; second::TABLE]);
+        let written = second::run(file, &mut log, &mut report, &mut table);
+        let [number, _, _, gone_round] = report;
+        self.runs[usize::from(number)] += 1;
+        if number != 0 {
+            return None;
+        }
+        log.truncate(written);
+        self.gone_round += usize::from(gone_round > 0);
+        if gone_round == 0 && second::judge(&log).0 != 0 {
+            let file = file.to_vec();
+            self.faulted = Some(Case::Run { room, file });
+        }
+        Some(log)
+    }
+}
+
+impl fmt::Display for Mix {
+    fn fmt(&self, out: &mut fmt::Formatter) -> fmt::Result {
+        write!(out, "runs by number:")?;
+        write_counts(&self.runs, out)?;
+        write!(out, " (gone round {})\nlogs by number:", self.gone_round)?;
+        write_counts(&self.judged, out)
+    }
+}
+
+fn write_counts(counts: &[usize], out: &mut fmt::Formatter) -> fmt::Result {
+    for (number, count) in counts.iter().enumerate().filter(|(_, &count)| count > 0) {
+        write!(out, " {number}:{count}")?;
+    }
+    Ok(())
+}

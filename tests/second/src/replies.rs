@@ -1,0 +1,66 @@
+//! This side's reply to a case, one line.
+
+use crate::cases::Case;
+use second::{ROW, TABLE};
+use std::fmt::Write;
+
+pub fn reply(case: &Case) -> String {
+    match case {
+        Case::Run { room, file } => run_reply(*room, file),
+        Case::Judge { log } => {
+            let (number, entry) = second::judge(log);
+            format!("judge {number} {entry}")
+        }
+    }
+}
+
+/// What a buffer's byte holds before the run: no two neighbours are alike.
+fn before(position: usize) -> u8 {
+    (position * 37 + 165) as u8
+}
+
+fn run_reply(room: usize, file: &[u8]) -> String {
+    let mut buffer: Vec<u8> = (0..room).map(before).collect();
+    let (mut report, mut table) = ([0; 4], [0; TABLE]);
+    let written = second::run(file, &mut buffer, &mut report, &mut table);
+    let [number, entries, steps, gone] = report;
+    let mut line = format!("run {number} {entries} {steps} {gone} {written} ");
+    write_hex(&buffer[..written], &mut line);
+    let kept = (written..room).all(|position| buffer[position] == before(position));
+    line.push_str(if kept { " kept " } else { " altered " });
+    write_table(&table, &mut line);
+    line
+}
+
+fn write_hex(bytes: &[u8], line: &mut String) {
+    if bytes.is_empty() {
+        line.push('-');
+    }
+    for &byte in bytes {
+        for digit in [byte >> 4, byte & 15] {
+            line.push(char::from(b"0123456789abcdef"[usize::from(digit)]));
+        }
+    }
+}
+
+fn write_table(table: &[u16; TABLE], line: &mut String) {
+    let before_rows = line.len();
+    for (queue, row) in table.chunks_exact(ROW).enumerate() {
+        let Some(last) = row.iter().rposition(|&number| number != 0) else {
+            continue;
+        };
+        if line.len() > before_rows {
+            line.push(';');
+        }
+        for (column, number) in row[..=last].iter().enumerate() {
+            let sign = if column == 0 { ':' } else { ',' };
+            if column == 0 {
+                line.push_str(&queue.to_string());
+            }
+            write!(line, "{sign}{number}").expect("a string takes all");
+        }
+    }
+    if line.len() == before_rows {
+        line.push('-');
+    }
+}

@@ -1,0 +1,169 @@
+//! The worked runs K1 to K14, typed from the page, against this side alone.
+
+use second::log::{length, Entry, HEAD, MOST, WIDTH};
+use std::fmt::Write;
+
+const K1: [u8; 17] = [2, 8, 4, 2, 2, 1, 0, 3, 1, 0, 7, 2, 0, 0, 3, 0, 0];
+const K3: [u8; 21] = [
+    2, 8, 4, 3, 2, 1, 1, 0, 4, 1, 0, 5, 1, 0, 6, 3, 0, 0, 3, 0, 0,
+];
+const K6: [u8; 13] = [2, 8, 1, 1, 2, 0, 2, 1, 0, 1, 1, 0, 2];
+const K7: [u8; 10] = [2, 8, 4, 1, 1, 0, 1, 2, 0, 0];
+const K8: [u8; 7] = [2, 8, 4, 1, 0, 0, 0];
+
+const K1_OUTPUT: &str = "0 0 1 1 7 0 2 4
+1 0 3 1 7 3 8 14
+0 0 2 0 0 6 12 15
+entries 3 steps 13 gone-round 0 judge 0
+";
+const K2_OUTPUT: &str = "0 0 1 1 7 0 2 4
+0 0 2 1 7 6 11 14
+1 0 3 0 0 3 12 65535
+entries 3 steps 13 gone-round 0 judge 0
+";
+const K3_OUTPUT: &str = "0 0 1 1 5 0 2 4
+0 0 1 1 6 3 5 10
+2 0 3 1 5 9 12 24
+1 0 3 0 0 6 13 65535
+entries 4 steps 14 gone-round 0 judge 0
+";
+const K4_OUTPUT: &str = "0 0 1 1 1 0 2 4
+0 0 2 1 1 6 11 14
+0 0 1 1 2 12 14 28
+0 0 2 1 2 15 20 32
+0 0 1 1 3 21 23 46
+1 0 3 1 1 3 24 48
+entries 6 steps 25 gone-round 1 judge 17
+";
+const K5_OUTPUT: &str = "0 0 1 1 1 0 2 4
+0 0 2 1 1 6 11 14
+0 0 1 1 2 12 14 28
+0 0 2 1 2 15 20 32
+0 0 1 1 3 21 23 46
+1 0 3 0 0 3 24 65535
+entries 6 steps 25 gone-round 0 judge 0
+";
+
+const K6_OUTPUT: &str = "0 0 1 1 1 0 2 4
+0 0 1 2 2 3 3 65535
+entries 2 steps 4 gone-round 0 judge 0
+";
+const K7_OUTPUT: &str = "0 0 2 0 0 0 0 0
+entries 1 steps 1 gone-round 0 judge 0
+";
+const K8_OUTPUT: &str = "entries 0 steps 0 gone-round 0 judge 0\n";
+const K9_OUTPUT: &str = "entries 0 steps 4096 gone-round 0 judge 0\n";
+
+/// The worked runs that come out otherwise, with what was wanted and what was found.
+pub fn differences() -> Vec<String> {
+    let outputs = runs().into_iter().map(|(name, file, wanted)| {
+        let found = output(&file, length(MOST));
+        (name, wanted.to_string(), found)
+    });
+    let all = outputs.chain(refusals()).chain(logs());
+    all.filter(|(_, wanted, found)| wanted != found)
+        .map(|(name, wanted, found)| format!("{name}: wanted\n{wanted}found\n{found}"))
+        .collect()
+}
+
+fn file(front: &[u8], schedule: &[u8]) -> Vec<u8> {
+    let length = (schedule.len() as u16).to_be_bytes();
+    [front, &length, schedule].concat()
+}
+
+fn k4_with(tag_bits: u8) -> Vec<u8> {
+    let front = [
+        2, tag_bits, 4, 2, 5, 1, 0, 6, 1, 0, 1, 2, 0, 0, 1, 0, 2, 2, 0, 0, 1, 0, 3, 3, 0, 0,
+    ];
+    let (push, about_to_take, the_rest) = ([0; 3], [1; 3], [0; 18]);
+    let schedule = [&push[..], &about_to_take, &the_rest, &[1]].concat();
+    file(&front, &schedule)
+}
+
+fn runs() -> Vec<(&'static str, Vec<u8>, &'static str)> {
+    let k1 = file(&K1, &[0, 0, 0, 1, 1, 1, 0, 0, 1]);
+    let k2 = file(&K1, &[0, 0, 0, 1, 1, 1, 0, 0, 0, 0, 0, 0, 1]);
+    let k3 = file(&K3, &[0, 0, 0, 0, 0, 0, 1, 1, 1, 2, 2, 2, 2, 1]);
+    vec![
+        ("K1", k1, K1_OUTPUT),
+        ("K2", k2, K2_OUTPUT),
+        ("K3", k3, K3_OUTPUT),
+        ("K4", k4_with(1), K4_OUTPUT),
+        ("K5", k4_with(2), K5_OUTPUT),
+        ("K6", file(&K6, &[0; 4]), K6_OUTPUT),
+        ("K7", file(&K7, &[0]), K7_OUTPUT),
+        ("K8", file(&K8, &[]), K8_OUTPUT),
+        ("K9, 4096", file(&K8, &[0; 4096]), K9_OUTPUT),
+    ]
+}
+
+fn refusals() -> Vec<(&'static str, String, String)> {
+    let k8 = file(&K8, &[]);
+    let with = |at: usize, byte: u8| {
+        let mut changed = k8.clone();
+        changed[at] = byte;
+        changed
+    };
+    let most = length(MOST);
+    let refused = [
+        ("K9, 4097", file(&K8, &[0; 4097]), most, 6),
+        ("K10", vec![], most, 1),
+        ("K11, W = 0", with(1, 0), most, 2),
+        ("K11, W = 17", with(1, 17), most, 2),
+        ("K11, C = 0", with(2, 0), most, 2),
+        ("K11, C = 65", with(2, 65), most, 2),
+        ("K12", with(4, 33), most, 3),
+        ("K13", k8.clone(), length(0) - 1, 8),
+        ("K13, K7's", file(&K7, &[0]), length(1) - 1, 8),
+    ];
+    let compare = |(name, file, room, number): (_, Vec<u8>, usize, u16)| {
+        (name, format!("refused {number}\n"), output(&file, room))
+    };
+    refused.into_iter().map(compare).collect()
+}
+
+fn logs() -> Vec<(&'static str, String, String)> {
+    let judged = |log: &[u8]| {
+        let (number, entry) = second::judge(log);
+        format!("{number} at entry {entry}\n")
+    };
+    let mut k4_log = vec![0; length(6)];
+    second::run(
+        &k4_with(1),
+        &mut k4_log,
+        &mut [0; 4],
+        &mut [0; second::TABLE],
+    );
+    let k14 = [
+        2, 1, 2, 0, 2, 0, 0, 1, 1, 0, 7, 0, 0, 0, 2, 0, 4, 0, 0, 1, 2, 0, 8, 0, 3, 0, 3, 255, 255,
+    ];
+    let mut k8_log = [0; 5];
+    let k8_length = second::run(
+        &file(&K8, &[]),
+        &mut k8_log,
+        &mut [0; 4],
+        &mut [0; second::TABLE],
+    );
+    vec![
+        ("K8, log bytes", "5\n".into(), format!("{k8_length}\n")),
+        ("K4, entry", "17 at entry 5\n".into(), judged(&k4_log)),
+        ("K14", "19 at entry 1\n".into(), judged(&k14)),
+    ]
+}
+
+/// What the program prints for a file.
+fn output(file: &[u8], room: usize) -> String {
+    let mut log = vec![0; room];
+    let (mut report, mut table) = ([0; 4], [0; second::TABLE]);
+    let written = second::run(file, &mut log, &mut report, &mut table);
+    let [number, entries, steps, gone_round] = report;
+    if number != 0 {
+        return format!("refused {number}\n");
+    }
+    let mut lines = String::new();
+    for bytes in log[HEAD..written].chunks_exact(WIDTH) {
+        writeln!(lines, "{}", Entry::read(bytes)).expect("a string takes all");
+    }
+    let judge = second::judge(&log[..written]).0;
+    lines + &format!("entries {entries} steps {steps} gone-round {gone_round} judge {judge}\n")
+}
