@@ -1,4 +1,4 @@
-# For the scripts that build a host program in C over the two static libraries; they source it from the repository's root. The libraries
+# For the scripts that build a program in C over the two static libraries; they source it from the repository's root. The libraries
 # are x86-64: on another processor a cross compiler and an emulator stand in.
 
 library() { # library NAME CRATE..: builds libNAME.a where it is missing or older than the crates that it is made of
@@ -17,9 +17,13 @@ need() { # need COMMAND PACKAGE..: installs the packages where the command is mi
     command -v "$command" >/dev/null 2>&1 || { apt-get update -qq && apt-get install -y -qq "$@"; } >/dev/null
 }
 
-build_host() { # build_host NAME: builds tests/host/NAME.c as target/host/NAME; `emulator` is then what runs it, or nothing
+libraries() { # builds both libraries where that is needed
     library judge log judge
     library bench queue runfile log bench
+}
+
+build_host() { # build_host NAME: builds tests/host/NAME.c as target/host/NAME; `emulator` is then what runs it, or nothing
+    libraries
     if [ "$(uname -m)" = x86_64 ]; then
         need gcc gcc libc6-dev
         compiler=gcc emulator=

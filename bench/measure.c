@@ -1,0 +1,113 @@
+/* Times the proved bench and judge against a plain C bench and the second implementation, in Rust, on the same files and the same log, in
+ * turn, in one run, and prints the ratios. */
+#include "plain.h"
+#include "scarpgoblet.h"
+
+#include <stdio.h>
+#include <string.h>
+#include <time.h>
+
+typedef size_t run_fn(const uint8_t *, size_t, uint8_t *, size_t, uint16_t *, uint16_t *);
+typedef uint32_t judge_fn(const uint8_t *, size_t);
+
+run_fn second_run;
+judge_fn second_judge;
+
+enum { ROUNDS = 40, TIMES = 50, FILE_MOST = 4880, TABLE = 536 };
+
+struct reply {
+    uint8_t log[SCARPGOBLET_LOG_MOST];
+    uint16_t report[4], table[TABLE];
+    size_t length;
+};
+
+static uint32_t seed = 1;
+
+static unsigned random_below(unsigned n) {
+    seed = seed * 1664525u + 1013904223u;
+    return (seed >> 8) % n;
+}
+
+/* A file of p processes with so many calls each, by chance pushes, bottom pops and top pops, and a random schedule. */
+static size_t make(uint8_t *f, unsigned p, unsigned calls, unsigned steps) {
+    size_t at = 0;
+    unsigned node = 1;
+    f[at++] = 2, f[at++] = 8, f[at++] = 64, f[at++] = (uint8_t)p;
+    for (unsigned i = 0; i < p; i++) f[at++] = (uint8_t)calls;
+    f[at++] = (uint8_t)(p * calls / 256), f[at++] = (uint8_t)(p * calls);
+    for (unsigned k = 0; k < p * calls; k++) {
+        unsigned code = 1 + random_below(3);
+        f[at++] = (uint8_t)code;
+        f[at++] = code == 1 ? (uint8_t)(node / 256) : 0;
+        f[at++] = code == 1 ? (uint8_t)node++ : code == 3 ? (uint8_t)random_below(p) : 0;
+    }
+    f[at++] = (uint8_t)(steps / 256), f[at++] = (uint8_t)steps;
+    for (unsigned i = 0; i < steps; i++) f[at++] = (uint8_t)random_below(p);
+    return at;
+}
+
+static double now(void) {
+    struct timespec t;
+    clock_gettime(CLOCK_PROCESS_CPUTIME_ID, &t);
+    return (double)t.tv_sec * 1e9 + (double)t.tv_nsec;
+}
+
+static void ran(run_fn *run, const uint8_t *f, size_t len, struct reply *r) {
+    memset(r, 0, sizeof *r);
+    r->length = run(f, len, r->log, sizeof r->log, r->report, r->table);
+}
+
+static double run_time(run_fn *run, const uint8_t *f, size_t len) {
+    static struct reply r;
+    double start = now();
+    for (unsigned i = 0; i < TIMES; i++) run(f, len, r.log, sizeof r.log, r.report, r.table);
+    return (now() - start) / TIMES;
+}
+
+static double judge_time(judge_fn *judge, const uint8_t *log, size_t len) {
+    double start = now();
+    for (unsigned i = 0; i < TIMES; i++) judge(log, len);
+    return (now() - start) / TIMES;
+}
+
+static void least(double *x, double y) {
+    if (y < *x) *x = y;
+}
+
+static int compare_runs(const char *name, unsigned p, unsigned calls, unsigned steps) {
+    static uint8_t f[FILE_MOST];
+    static struct reply proved, c, rust;
+    size_t len = make(f, p, calls, steps);
+    ran(scarpgoblet_run, f, len, &proved), ran(plain_run, f, len, &c), ran(second_run, f, len, &rust);
+    if (memcmp(&proved, &c, sizeof c) || memcmp(&proved, &rust, sizeof rust)) {
+        printf("%s: the replies differ\n", name);
+        return 1;
+    }
+    double x = 1e18, y = 1e18, z = 1e18;
+    for (unsigned round = 0; round < ROUNDS; round++)
+        least(&x, run_time(scarpgoblet_run, f, len)), least(&y, run_time(plain_run, f, len)), least(&z, run_time(second_run, f, len));
+    printf("run, %s: proved %.0f ns, C %.0f ns, ratio %.2f; Rust %.0f ns, ratio %.2f\n", name, x, y, x / y, z, x / z);
+    return 0;
+}
+
+static int compare_judges(const char *name, unsigned p, unsigned calls, unsigned steps) {
+    static uint8_t f[FILE_MOST];
+    static struct reply r;
+    ran(scarpgoblet_run, f, make(f, p, calls, steps), &r);
+    if (r.report[1] != p * calls || scarpgoblet_judge(r.log, r.length) != 0 || second_judge(r.log, r.length) != 0) {
+        printf("%s: not a log of that many entries, or not accepted\n", name);
+        return 1;
+    }
+    double x = 1e18, z = 1e18;
+    for (unsigned round = 0; round < ROUNDS; round++)
+        least(&x, judge_time(scarpgoblet_judge, r.log, r.length)), least(&z, judge_time(second_judge, r.log, r.length));
+    printf("judge, %s: proved %.0f ns; Rust %.0f ns, ratio %.2f\n", name, x, z, x / z);
+    return 0;
+}
+
+int main(void) {
+    return compare_runs("a full file (8 processes, 32 calls each, 4,096 steps)", 8, 32, 4096)
+        | compare_runs("a morning's file (3 processes, 10 calls each, 150 steps)", 3, 10, 150)
+        | compare_judges("a full log (256 entries)", 8, 32, 4096)
+        | compare_judges("a morning's log (30 entries)", 3, 10, 150);
+}
