@@ -254,16 +254,22 @@ fn broken(log: &[u8], notes: &[u8], n: usize, slots: u8, rule: Rule, j: usize) -
             !right | (bears & (i < j))
         }
         Rule::Nil => {
-            let nil = log::same(What::TopNil, did);
-            let cause = caused(log, notes, n, e);
-            nil & !cause
+            if log::same(What::TopNil, did) {
+                let cause = caused(log, notes, n, e);
+                !cause
+            } else {
+                false
+            }
         }
         Rule::Full => {
-            let full = log::same(What::Full, did);
-            let q = e.queue;
-            let start = 2 * (e.start as usize);
-            let k = tally(log, notes, n, Ask::PushedOn(q, start));
-            full & (k < (slots as usize))
+            if log::same(What::Full, did) {
+                let q = e.queue;
+                let start = 2 * (e.start as usize);
+                let k = tally(log, notes, n, Ask::PushedOn(q, start));
+                k < slots as usize
+            } else {
+                false
+            }
         }
     }
 }

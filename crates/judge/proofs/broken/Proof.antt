@@ -1,4 +1,5 @@
 -- `judge::broken` meets its contract. Each arm is its rule, by what the calls in it ensure.
+use mathlib.Core.Path.{sym, _∙_}
 use borrow.Author.Needs.{needs}
 use Rattle.judge.proofs.broken.Statement.{statement}
 use Rattle.judge.proofs.broken.Tie as tie
@@ -58,10 +59,16 @@ returns-2 : tie.Need-returns-2
 returns-2 c = rw (c .find2 .ensures, c .before .bears-moment .ensures, c .before .before .moment-right .ensures, c .before .before .before .enum-told2 .given .1, c .before .before .before .before .before .what .ensures, c .before .before .before .before .before .before .entry-at .ensures)
 
 returns-3 : tie.Need-returns-3
-returns-3 c = rw (c .caused .ensures, c .before .same .ensures, c .before .before .enum-told3 .given .1, c .before .before .before .before .what .ensures, c .before .before .before .before .before .entry-at .ensures)
+returns-3 c = rw (c .before .before .before .enum-told3 .given .1, ← c .before .before .before .before .before .before .entry-at .ensures, ← c .before .before .before .before .before .what .ensures, sym (c .before .before .same .ensures) ∙ c .before .if1 .taken, c .caused .ensures)
 
 returns-4 : tie.Need-returns-4
-returns-4 c = rw (c .tally .ensures, c .before .before .same2 .ensures, c .before .before .before .enum-told4 .given .1, c .before .before .before .before .before .what .ensures, c .before .before .before .before .before .before .entry-at .ensures)
+returns-4 c = rw (c .before .before .enum-told3 .given .1, ← c .before .before .before .before .before .entry-at .ensures, ← c .before .before .before .before .what .ensures, sym (c .before .same .ensures) ∙ c .if1 .left)
+
+returns-5 : tie.Need-returns-5
+returns-5 c = rw (c .before .before .before .before .enum-told4 .given .1, ← c .before .before .before .before .before .before .before .entry-at .ensures, ← c .before .before .before .before .before .before .what .ensures, sym (c .before .before .before .same2 .ensures) ∙ c .before .before .if2 .taken, c .tally .ensures)
+
+returns-6 : tie.Need-returns-6
+returns-6 c = rw (c .before .before .enum-told4 .given .1, ← c .before .before .before .before .before .entry-at .ensures, ← c .before .before .before .before .what .ensures, sym (c .before .same2 .ensures) ∙ c .if2 .left)
 
 pub broken-spec : {M : Type 1} → statement M
 broken-spec =
@@ -86,4 +93,6 @@ broken-spec =
     returns
     returns-2
     returns-3
-    returns-4)
+    returns-4
+    returns-5
+    returns-6)
