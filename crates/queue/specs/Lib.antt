@@ -9,3 +9,4 @@ pub mod StepLaws
 pub mod Worked
 pub mod Settled
 pub mod Desk
+pub mod DeskLaws

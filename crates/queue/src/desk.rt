@@ -1,5 +1,10 @@
 // The desk: one queue stepped by hand, one access a call, its control word altered where it stands.
+ghost use mathlib.Core.Path.{_≡_};
+ghost use Rattle.queue.specs.Desk.{answerOf, AtDesk};
+use crate::Next;
 use crate::Stage;
+use crate::Word;
+use crate::step_on;
 
 // What the desk gives back: the next stage, or the result of the call. Refused: nothing was done, and the stage is given back as lent.
 pub enum Answer {
@@ -9,4 +14,34 @@ pub enum Answer {
     Nil,
     Full,
     Refused(Stage),
+}
+
+// The desk after a step by value: the word, and the answer.
+pub struct Desk {
+    pub word: Word,
+    pub answer: Answer,
+}
+
+fn answer_of(stage: Stage, next: Next) -> Answer
+    ensures { λ r. ⌜ r ≡ answerOf stage next ⌝ }
+{
+    match next {
+        Next::Going(stage) => Answer::Going(stage),
+        Next::Done => Answer::Done,
+        Next::Node(x) => Answer::Node(x),
+        Next::Nil => Answer::Nil,
+        Next::Full => Answer::Full,
+        Next::Refused => Answer::Refused(stage),
+    }
+}
+
+// The table's step for one stage, or a refusal, with the word given back instead of altered.
+pub fn step_by_value(width: u8, size: u8, word: Word, slots: &mut [u16], stage: Stage) -> Desk
+    ensures { λ r. ⌜ AtDesk width size word (now (slots .entry)) stage (r .answer) (r .word) (now (slots .exit)) ⌝ }
+{
+    let stepped = step_on(width, size, word, slots, stage);
+    let next = stepped.next;
+    let answer = answer_of(stage, next);
+    let word = stepped.word;
+    Desk { word, answer }
 }
