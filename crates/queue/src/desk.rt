@@ -45,3 +45,12 @@ pub fn step_by_value(width: u8, size: u8, word: Word, slots: &mut [u16], stage: 
     let word = stepped.word;
     Desk { word, answer }
 }
+
+// The same with the word lent: it is altered where it stands.
+pub fn step(width: u8, size: u8, word: &mut Word, slots: &mut [u16], stage: Stage) -> Answer
+    ensures { λ r. ⌜ AtDesk width size (now (word .entry)) (now (slots .entry)) stage r (now (word .exit)) (now (slots .exit)) ⌝ }
+{
+    let desk = step_by_value(width, size, *word, slots, stage);
+    *word = desk.word;
+    desk.answer
+}
