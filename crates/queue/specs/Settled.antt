@@ -6,10 +6,12 @@ use Prim.Native.Nat.{ℕ}
 use Rattle.queue.specs.Stages.{rowNumber, popsSlot}
 use Rattle.queue.specs.Range.{inRange}
 use Rattle.queue.specs.Step.{loadedSlot, stepOf, StepOn}
+use Rattle.queue.specs.Desk.{AtDesk}
 use Rattle.queue.specs.declared.Word.{Word}
 use Rattle.queue.specs.declared.Stage.{Stage}
 use Rattle.queue.specs.declared.Load.{Load}
 use Rattle.queue.specs.declared.Stepped.{Stepped}
+use Rattle.queue.specs.declared.desk.Answer.{Answer}
 
 one-value : {A : Type 0} {x y z : A} → x ≡ z → y ≡ z → x ≡ y
 one-value p q = p ∙ sym q
@@ -36,3 +38,9 @@ step-settled W C w v s r r′ p q = one-value p q
 pub step-on-settled : (W C : ℕ) (w : Word) (slots : List ℕ) (s : Stage) (r r′ : Stepped) (l l′ : List ℕ) →
     StepOn W C w slots s r l → StepOn W C w slots s r′ l′ → (r ≡ r′) × (l ≡ l′)
 step-on-settled W C w slots s r r′ l l′ p q = (one-value (p .stepped) (q .stepped), one-value (p .kept) (q .kept))
+
+-- of the desk's two functions
+pub desk-settled : (W C : ℕ) (w : Word) (slots : List ℕ) (s : Stage) (a a′ : Answer) (v v′ : Word) (l l′ : List ℕ) →
+    AtDesk W C w slots s a v l → AtDesk W C w slots s a′ v′ l′ → (a ≡ a′) × (v ≡ v′) × (l ≡ l′)
+desk-settled W C w slots s a a′ v v′ l l′ p q =
+    (one-value (p .answered) (q .answered), one-value (p .altered) (q .altered), one-value (p .kept) (q .kept))
