@@ -10,3 +10,4 @@ pub mod Worked
 pub mod Settled
 pub mod Desk
 pub mod DeskLaws
+pub mod DeskWorked
