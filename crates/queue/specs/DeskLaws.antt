@@ -39,7 +39,8 @@ answered-0 s next.Full h = refl
 answered-0 s next.Refused h = absurd h
 
 -- 10 is given exactly where the step is out of range
-pub refused-exactly : (W C : ℕ) (w : Word) (slots : List ℕ) (s : Stage) → numberOf (deskAnswer W C w slots s) ≡ cond (inRange W C (length slots) w s) 0 10
+pub refused-exactly : (W C : ℕ) (w : Word) (slots : List ℕ) (s : Stage) →
+    numberOf (deskAnswer W C w slots s) ≡ cond (inRange W C (length slots) w s) 0 10
 refused-exactly W C w slots s = by (inRange W C (length slots) w s)
   where
     by : (t : Bool) → numberOf (answerOf s (cond t (rowOf W C w (loaded slots (loadedSlot s)) s) (still w next.Refused) .next)) ≡ cond t 0 10
@@ -50,6 +51,12 @@ module _ (W C : ℕ) (w : Word) (slots : List ℕ) (s : Stage) where
   as-stepped : (r : Stepped) → steppedOn W C w slots s ≡ r →
       (deskAnswer W C w slots s ≡ answerOf s (r .next)) × (deskWord W C w slots s ≡ r .word) × (deskSlots W C w slots s ≡ stored slots (r .store))
   as-stepped r e = (ap (λ (z : Stepped). answerOf s (z .next)) e, ap (λ (z : Stepped). z .word) e, ap (λ (z : Stepped). stored slots (z .store)) e)
+
+  -- in range the desk does the table's row
+  pub row-done : inRange W C (length slots) w s ≡ true →
+      let r = rowOf W C w (loaded slots (loadedSlot s)) s in
+      (deskAnswer W C w slots s ≡ answerOf s (r .next)) × (deskWord W C w slots s ≡ r .word) × (deskSlots W C w slots s ≡ stored slots (r .store))
+  row-done e = as-stepped (rowOf W C w (loaded slots (loadedSlot s)) s) (rw e)
 
   -- a refusal gives the stage back as lent, and keeps the word and the slots
   pub refused-keeps : inRange W C (length slots) w s ≡ false →
@@ -196,7 +203,8 @@ module _ (W C n : ℕ) (w : Word) where
   pop-listed : {R : Type 0} (b : ℕ) → (b ≡ 0 → R) → (C < b → R) → ((1 ≤ b) × (b ≤ C) → R) → R
   pop-listed b f v k = at-most 1 b (λ h. f (omega arith)) (λ h. at-most b C v (λ i. k (h, i)))
 
-  owner-listed : {R : Type 0} (b t g : ℕ) → (b ≡ 0 → R) → (C < b → R) → (C < t → R) → (2 ^ W ≤ g → R) → ((1 ≤ b) × (b ≤ C) × (t ≤ C) × (g < 2 ^ W) → R) → R
+  owner-listed : {R : Type 0} (b t g : ℕ) → (b ≡ 0 → R) → (C < b → R) → (C < t → R) → (2 ^ W ≤ g → R) →
+      ((1 ≤ b) × (b ≤ C) × (t ≤ C) × (g < 2 ^ W) → R) → R
   owner-listed b t g f v f′ u k = pop-listed b f v (λ h. at-most t C f′ (λ i. below g (2 ^ W) u (λ j. k (h .0, h .1, i, j))))
 
   stage-listed : (s : Stage) → (StageIn W C s → Refuses W C n w s) → Refuses W C n w s
@@ -234,17 +242,22 @@ module _ (W C n : ℕ) (w : Word) where
       absurd (true≢false (sym (range-in W C n w s (record { sizes = a; word = b; stage = c })) ∙ e)))))
 
 -- so the desk refuses exactly what is on the list
-module _ (W C : ℕ) (w : Word) (slots : List ℕ) (s : Stage) (answer : Answer) (word : Word) (after : List ℕ) (h : AtDesk W C w slots s answer word after) where
+module _ (W C : ℕ) (w : Word) (slots : List ℕ) (s : Stage) (answer : Answer) (word : Word) (after : List ℕ)
+    (h : AtDesk W C w slots s answer word after) where
+  pub number-given : numberOf answer ≡ cond (inRange W C (length slots) w s) 0 10
+  number-given = ap numberOf (h .answered) ∙ refused-exactly W C w slots s
+
   pub refuses-10 : Refuses W C (length slots) w s → numberOf answer ≡ 10
-  refuses-10 r = ap numberOf (h .answered) ∙ refused-exactly W C w slots s ∙ ap (λ (t : Bool). cond t 0 10) (refuses-out W C (length slots) w s r)
+  refuses-10 r = number-given ∙ ap (λ (t : Bool). cond t 0 10) (refuses-out W C (length slots) w s r)
 
   pub 10-refuses : numberOf answer ≡ 10 → Refuses W C (length slots) w s
-  10-refuses e = out-refuses W C (length slots) w s (by-absurdity (inRange W C (length slots) w s) (λ r. no-10 (sym (in-range-0 r) ∙ e)))
+  10-refuses e = out-refuses W C (length slots) w s (by-absurdity (inRange W C (length slots) w s) (λ r. not-10 (given-0 r ∙ e)))
     where
-      in-range-0 : inRange W C (length slots) w s ≡ true → numberOf answer ≡ 0
-      in-range-0 r = ap numberOf (h .answered) ∙ refused-exactly W C w slots s ∙ ap (λ (t : Bool). cond t 0 10) r
-      no-10 : _≡_ {A = ℕ} 0 10 → ⊥
-      no-10 q = omega arith
+      given-0 : inRange W C (length slots) w s ≡ true → 0 ≡ numberOf answer
+      given-0 r = sym (number-given ∙ ap (λ (t : Bool). cond t 0 10) r)
+
+      not-10 : _≡_ {A = ℕ} 0 10 → ⊥
+      not-10 q = omega arith
 
   -- and then nothing is altered, and the stage is given back as lent
   pub refuses-keeps : Refuses W C (length slots) w s → (answer ≡ Refused s) × (word ≡ w) × (after ≡ slots)

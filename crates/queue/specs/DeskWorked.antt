@@ -74,6 +74,10 @@ numbered = (refl, refl, refl, refl, refl, refl, refl, refl, refl)
 abbrev Refusal : ℕ → ℕ → Word → List ℕ → Stage → Type 0
 Refusal W C w slots s = Gives W C w slots s (Refused s) w slots
 
+-- a stage is refused where W is 8, C is 4 and all else is 0
+abbrev StageRefusal : Stage → Type 0
+StageRefusal s = Refusal 8 4 (word 0 0 0) (slots 0) s
+
 -- W not 1 to 16, C not 1 to 64, the slots not C in number
 sizes-refused : Refusal 0 4 (word 0 0 0) (slots 0) B1 × Refusal 17 4 (word 0 0 0) (slots 0) B1 × Refusal 8 0 (word 0 0 0) [] B1
     × Refusal 8 65 (word 0 0 0) (replicate 65 0) B1 × Refusal 8 3 (word 0 0 0) (slots 0) B1 × Refusal 8 5 (word 0 0 0) (slots 0) B1
@@ -85,20 +89,32 @@ word-refused : Refusal 8 4 (word 5 0 0) (slots 0) B1 × Refusal 8 4 (word 0 5 0)
 word-refused = ((refl, refl, refl), (refl, refl, refl), (refl, refl, refl), (refl, refl, refl))
 
 -- a loaded b or t above C, a loaded tag not below 2^W
-loads-refused : Refusal 8 4 (word 0 0 0) (slots 0) (P2 7 5) × Refusal 8 4 (word 0 0 0) (slots 0) (T3 0 0 5) × Refusal 8 4 (word 0 0 0) (slots 0) (B2 5)
-    × Refusal 8 4 (word 0 0 0) (slots 0) (T2 5 0) × Refusal 8 4 (word 0 0 0) (slots 0) (B5 1 7 5 0)
-    × Refusal 8 4 (word 0 0 0) (slots 0) (T2 0 256) × Refusal 8 4 (word 0 0 0) (slots 0) (T4 0 256 1 7) × Refusal 8 4 (word 0 0 0) (slots 0) (B7 1 7 0 256)
+loads-refused : StageRefusal (P2 7 5) × StageRefusal (T3 0 0 5) × StageRefusal (B2 5) × StageRefusal (T2 5 0) × StageRefusal (B5 1 7 5 0)
+    × StageRefusal (T2 0 256) × StageRefusal (T4 0 256 1 7) × StageRefusal (B7 1 7 0 256)
 loads-refused = (
-  (refl, refl, refl), (refl, refl, refl), (refl, refl, refl), (refl, refl, refl),
-  (refl, refl, refl), (refl, refl, refl), (refl, refl, refl), (refl, refl, refl),
+  (refl, refl, refl),
+  (refl, refl, refl),
+  (refl, refl, refl),
+  (refl, refl, refl),
+  (refl, refl, refl),
+  (refl, refl, refl),
+  (refl, refl, refl),
+  (refl, refl, refl),
 )
 
 -- b at P2 or P3 equal to C, t at T3 or T4 equal to C, b at B2 to B7 equal to 0
-edges-refused : Refusal 8 4 (word 0 0 0) (slots 0) (P2 7 4) × Refusal 8 4 (word 0 0 0) (slots 0) (P3 4)
-    × Refusal 8 4 (word 0 0 0) (slots 0) (T3 4 0 4) × Refusal 8 4 (word 0 0 0) (slots 0) (T4 4 0 4 7)
-    × Refusal 8 4 (word 0 0 0) (slots 0) (B2 0) × Refusal 8 4 (word 0 0 0) (slots 0) (B3 0) × Refusal 8 4 (word 0 0 0) (slots 0) (B4 0 7)
-    × Refusal 8 4 (word 0 0 0) (slots 0) (B5 0 7 0 0) × Refusal 8 4 (word 0 0 0) (slots 0) (B6 0 7 0 0) × Refusal 8 4 (word 0 0 0) (slots 0) (B7 0 7 0 0)
+edges-refused : StageRefusal (P2 7 4) × StageRefusal (P3 4) × StageRefusal (T3 4 0 4) × StageRefusal (T4 4 0 4 7)
+    × StageRefusal (B2 0) × StageRefusal (B3 0) × StageRefusal (B4 0 7)
+    × StageRefusal (B5 0 7 0 0) × StageRefusal (B6 0 7 0 0) × StageRefusal (B7 0 7 0 0)
 edges-refused = (
-  (refl, refl, refl), (refl, refl, refl), (refl, refl, refl), (refl, refl, refl), (refl, refl, refl),
-  (refl, refl, refl), (refl, refl, refl), (refl, refl, refl), (refl, refl, refl), (refl, refl, refl),
+  (refl, refl, refl),
+  (refl, refl, refl),
+  (refl, refl, refl),
+  (refl, refl, refl),
+  (refl, refl, refl),
+  (refl, refl, refl),
+  (refl, refl, refl),
+  (refl, refl, refl),
+  (refl, refl, refl),
+  (refl, refl, refl),
 )

@@ -26,7 +26,7 @@ fn answer_of(stage: Stage, next: Next) -> Answer
     ensures { λ r. ⌜ r ≡ answerOf stage next ⌝ }
 {
     match next {
-        Next::Going(stage) => Answer::Going(stage),
+        Next::Going(following) => Answer::Going(following),
         Next::Done => Answer::Done,
         Next::Node(x) => Answer::Node(x),
         Next::Nil => Answer::Nil,
