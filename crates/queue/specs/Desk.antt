@@ -1,8 +1,11 @@
 -- The desk: what it gives back for a stage lent with a word and slots, and the word and the slots after it. The step is the table's; a step
 -- out of range is refused with 10, before any access, and the stage is given back as lent.
 use mathlib.Core.Path.{_≡_}
+use mathlib.Core.Bool.{cond}
+use lib.ListN.{length}
 use Prim.Native.Nat.{ℕ}
 use mathlib.Core.List.{List, [], _∷_}
+use Rattle.queue.specs.Range.{inRange}
 use Rattle.queue.specs.Step.{stored, steppedOn}
 use Rattle.queue.specs.declared.Word.{Word}
 use Rattle.queue.specs.declared.Stage.{Stage}
@@ -56,8 +59,9 @@ deskWord W C w slots s = steppedOn W C w slots s .word
 abbrev pub deskSlots : ℕ → ℕ → Word → List ℕ → Stage → List ℕ
 deskSlots W C w slots s = stored slots (steppedOn W C w slots s .store)
 
--- what the desk promises of its answer, of the word and of the slots after it
+-- what the desk promises of its answer, of the word and of the slots after it; 10 is given exactly where the step is out of range
 pub record AtDesk (W C : ℕ) (w : Word) (slots : List ℕ) (s : Stage) (answer : Answer) (word : Word) (after : List ℕ) : Type 0 where
   pub answered : answer ≡ deskAnswer W C w slots s
+  pub numbered : numberOf answer ≡ cond (inRange W C (length slots) w s) 0 10
   pub altered : word ≡ deskWord W C w slots s
   pub kept : after ≡ deskSlots W C w slots s

@@ -21,15 +21,6 @@ use Rattle.queue.specs.declared.Stepped.{Stepped}
 use Rattle.queue.specs.declared.desk.Answer.{Answer}
 use Rattle.queue.specs.declared.desk.Answer.the-variants.{Going, Refused}
 
--- the desk's step is the one of `step_on`, which a run's is too, with its answer in the desk's words
-pub at-desk : {W C : ℕ} {w : Word} {slots after : List ℕ} {s : Stage} {r : Stepped} {answer : Answer} →
-    StepOn W C w slots s r after → answer ≡ answerOf s (r .next) → AtDesk W C w slots s answer (r .word) after
-at-desk {s = s} h e = record {
-  answered = e ∙ ap (λ (z : Stepped). answerOf s (z .next)) (h .stepped);
-  altered = ap (λ (z : Stepped). z .word) (h .stepped);
-  kept = h .kept;
-}
-
 answered-0 : (s : Stage) (n : Next) → Answered n → numberOf (answerOf s n) ≡ 0
 answered-0 s (next.Going z) h = refl
 answered-0 s next.Done h = refl
@@ -46,6 +37,18 @@ refused-exactly W C w slots s = by (inRange W C (length slots) w s)
     by : (t : Bool) → numberOf (answerOf s (cond t (rowOf W C w (loaded slots (loadedSlot s)) s) (still w next.Refused) .next)) ≡ cond t 0 10
     by true = answered-0 s (rowOf W C w (loaded slots (loadedSlot s)) s .next) (answered W C w (loaded slots (loadedSlot s)) s)
     by false = refl
+
+-- the desk's step is the one of `step_on`, which a run's is too, with its answer in the desk's words
+pub at-desk : {W C : ℕ} {w : Word} {slots after : List ℕ} {s : Stage} {r : Stepped} {answer : Answer} →
+    StepOn W C w slots s r after → answer ≡ answerOf s (r .next) → AtDesk W C w slots s answer (r .word) after
+at-desk {W} {C} {w} {slots} {s = s} {answer = answer} h e =
+    let d : answer ≡ deskAnswer W C w slots s = e ∙ ap (λ (z : Stepped). answerOf s (z .next)) (h .stepped) in
+    record {
+      answered = d;
+      numbered = ap numberOf d ∙ refused-exactly W C w slots s;
+      altered = ap (λ (z : Stepped). z .word) (h .stepped);
+      kept = h .kept;
+    }
 
 module _ (W C : ℕ) (w : Word) (slots : List ℕ) (s : Stage) where
   as-stepped : (r : Stepped) → steppedOn W C w slots s ≡ r →
@@ -244,17 +247,14 @@ module _ (W C n : ℕ) (w : Word) where
 -- so the desk refuses exactly what is on the list
 module _ (W C : ℕ) (w : Word) (slots : List ℕ) (s : Stage) (answer : Answer) (word : Word) (after : List ℕ)
     (h : AtDesk W C w slots s answer word after) where
-  pub number-given : numberOf answer ≡ cond (inRange W C (length slots) w s) 0 10
-  number-given = ap numberOf (h .answered) ∙ refused-exactly W C w slots s
-
   pub refuses-10 : Refuses W C (length slots) w s → numberOf answer ≡ 10
-  refuses-10 r = number-given ∙ ap (λ (t : Bool). cond t 0 10) (refuses-out W C (length slots) w s r)
+  refuses-10 r = h .numbered ∙ ap (λ (t : Bool). cond t 0 10) (refuses-out W C (length slots) w s r)
 
   pub 10-refuses : numberOf answer ≡ 10 → Refuses W C (length slots) w s
   10-refuses e = out-refuses W C (length slots) w s (by-absurdity (inRange W C (length slots) w s) (λ r. not-10 (given-0 r ∙ e)))
     where
       given-0 : inRange W C (length slots) w s ≡ true → 0 ≡ numberOf answer
-      given-0 r = sym (number-given ∙ ap (λ (t : Bool). cond t 0 10) r)
+      given-0 r = sym (h .numbered ∙ ap (λ (t : Bool). cond t 0 10) r)
 
       not-10 : _≡_ {A = ℕ} 0 10 → ⊥
       not-10 q = omega arith

@@ -1,5 +1,4 @@
--- The run's step is the step of `queue`: the word, the slots and the next stage are those of `steppedOn`, which `step_on` promises and whose
--- conditions are the desk's. So a desk over `step_on` makes the run's step.
+-- The run's step and the desk's are the same one: word, slots and next stage are those of `steppedOn`. `ReplayLaws` has it of whole runs.
 use Prim.Native.Nat.{ℕ, _<_}
 use mathlib.Core.Path.{_≡_}
 use mathlib.Core.List.{List, []}
@@ -9,11 +8,13 @@ use Rattle.bench.specs.Moment.{queueOf}
 use Rattle.bench.specs.State.{State, fresh, nobody, queueAt, processAt}
 use Rattle.bench.specs.Turn.{queueAfter, processAfter, act}
 use Rattle.bench.specs.declared.Process.{Process}
-use Rattle.queue.specs.Step.{stored, steppedOn, StepOn}
+use Rattle.queue.specs.Desk.{answerOf, AtDesk}
+use Rattle.queue.specs.Step.{stored, steppedOn}
 use Rattle.queue.specs.StepLaws.{stageAfter}
 use Rattle.queue.specs.declared.Stage.{Stage}
 use Rattle.queue.specs.declared.Stepped.{Stepped}
 use Rattle.queue.specs.declared.Word.{Word}
+use Rattle.queue.specs.declared.desk.Answer.{Answer}
 
 -- process p, whose record is r, makes a step in a run: o is the step of its queue
 pub record SameStep (W C p : ℕ) (r : Process) (s : State) (o : Stepped) : Type 0 where
@@ -36,7 +37,7 @@ module _ (W C p : ℕ) (r : Process) (s : State) where
     stage = rw (getD-set-same (s .bench .processes) p (processAfter (s .bench .steps) (queueAt (s .bench) q .resets) r (the-step .next)) nobody h);
   }
 
--- whoever keeps the promise of `step_on` on that word, these slots and that stage gives that step
-pub desk-steps : (W C : ℕ) (w : Word) (slots : List ℕ) (z : Stage) (answer : Stepped) (after : List ℕ) → StepOn W C w slots z answer after
-    → (answer ≡ steppedOn W C w slots z) × (after ≡ stored slots (steppedOn W C w slots z .store))
-desk-steps W C w slots z answer after h = (h .stepped, h .kept)
+-- the desk's promise, on that word, these slots and that stage, is of the same step
+pub desk-steps : (W C : ℕ) (w : Word) (slots : List ℕ) (z : Stage) (answer : Answer) (word : Word) (after : List ℕ) → AtDesk W C w slots z answer word after
+    → let o = steppedOn W C w slots z in (answer ≡ answerOf z (o .next)) × (word ≡ o .word) × (after ≡ stored slots (o .store))
+desk-steps W C w slots z answer word after h = (h .answered, h .altered, h .kept)
