@@ -1,0 +1,9 @@
+use mathlib.Core.Path.{refl}
+use Rattle.desk.proofs.all_numbers.Statement.{statement}
+use Rattle.desk.proofs.all_numbers.Tie as tie
+
+returns : tie.Need-returns
+returns c = refl
+
+pub all-numbers-spec : {M : Type 1} → statement M
+all-numbers-spec = tie.close (tie.spec returns)

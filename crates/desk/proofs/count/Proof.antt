@@ -1,0 +1,51 @@
+use Prim.Native.Nat.{_+_, _-_, _*_, _<_, _≤_}
+use native.Mathlib.Omega.{arith}
+use borrow.Author.Tests.{le-ltb, lt-ltb}
+use borrow.Author.Needs.{needs}
+use Rattle.desk.proofs.count.Statement.{statement}
+use Rattle.desk.proofs.count.Tie as tie
+
+returns : tie.Need-returns
+returns c = rw (lt-ltb _ _ (c .if1 .taken))
+
+returns-2 : tie.Need-returns-2
+returns-2 c = rw (le-ltb _ _ (c .before .if1 .left), lt-ltb _ _ (c .if2 .taken))
+
+returns-3 : tie.Need-returns-3
+returns-3 c = 
+    let a = c .before .before .before .args in
+    rw (le-ltb _ _ (c .before .before .if1 .left), le-ltb _ _ (c .before .if2 .left), lt-ltb 65535 (10 * a .n + (a .byte - 48)) (omega arith))
+
+mul-longer : tie.Need-mul-longer
+mul-longer c = search needs
+
+u8-to-u32-requires : tie.Need-u8-to-u32-requires
+u8-to-u32-requires c κs = search needs
+
+add-longer : tie.Need-add-longer
+add-longer c = search needs
+
+returns-4 : tie.Need-returns-4
+returns-4 c = 
+    let a = c .before .before .before .before .before .args in
+    let h : 65535 < 10 * a .n + (a .byte - 48) = omega (arith, c .if4 .taken, c .before .u8-to-u32 .ensures) in
+    rw (le-ltb _ _ (c .before .before .before .before .if1 .left), le-ltb _ _ (c .before .before .before .if2 .left), lt-ltb _ _ h)
+
+returns-5 : tie.Need-returns-5
+returns-5 c = 
+    let a = c .before .before .before .before .before .args in
+    let h : 10 * a .n + (a .byte - 48) ≤ 65535 = omega (arith, c .if4 .left, c .before .u8-to-u32 .ensures) in
+    rw (c .before .u8-to-u32 .ensures .0, le-ltb _ _ (c .before .before .before .before .if1 .left), le-ltb _ _ (c .before .before .before .if2 .left), le-ltb _ _ h)
+
+pub count-spec : {M : Type 1} → statement M
+count-spec =
+    tie.close
+    (tie.spec
+    returns
+    returns-2
+    returns-3
+    mul-longer
+    u8-to-u32-requires
+    add-longer
+    returns-4
+    returns-5)

@@ -1,0 +1,25 @@
+use Rattle.desk.specs.Line.{lineIn}
+use Rattle.desk.specs.declared.Line.the-variants as line
+use borrow.Author.Tests.{eq-eqb, ne-eqb}
+use mathlib.Core.Path.{_≡_, ap, _∙_}
+use borrow.Author.Needs.{needs}
+use Rattle.desk.proofs.read_stage.Statement.{statement}
+use Rattle.desk.proofs.read_stage.Tie as tie
+
+words-of-requires : tie.Need-words-of-requires
+words-of-requires c κs = search needs
+
+returns : tie.Need-returns
+returns c = let e : line.Nothing ≡ lineIn (c .before .before .words-of .result) = rw (eq-eqb _ _ (c .if1 .taken)) in e ∙ ap lineIn (c .before .before .words-of .ensures)
+
+stage-of-requires : tie.Need-stage-of-requires
+stage-of-requires c κs = search needs
+
+returns-2 : tie.Need-returns-2
+returns-2 c = 
+    let w = c .before .before .before .words-of in
+    let e : c .stage-of .result ≡ lineIn (w .result) = rw (ne-eqb _ _ (c .before .if1 .left)) (c .stage-of .ensures) in
+    e ∙ ap lineIn (w .ensures)
+
+pub read-stage-spec : {M : Type 1} → statement M
+read-stage-spec = tie.close (tie.spec words-of-requires returns stage-of-requires returns-2)

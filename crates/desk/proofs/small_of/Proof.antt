@@ -1,0 +1,16 @@
+use borrow.Author.Tests.{le-ltb, lt-ltb}
+use borrow.Author.Needs.{needs}
+use Rattle.desk.proofs.small_of.Statement.{statement}
+use Rattle.desk.proofs.small_of.Tie as tie
+
+cast-result : tie.Need-cast-result
+cast-result c = search needs
+
+returns : tie.Need-returns
+returns c = rw (lt-ltb _ _ (c .if1 .taken))
+
+returns-2 : tie.Need-returns-2
+returns-2 c = rw (le-ltb _ _ (c .if1 .left))
+
+pub small-of-spec : {M : Type 1} → statement M
+small-of-spec = tie.close (tie.spec cast-result returns returns-2)

@@ -1,0 +1,119 @@
+-- What a line typed at the desk says: its words, byte by byte, then the table of stages. Words stand apart by blanks; a number is 0 to 65,535 in
+-- decimal, and 65,536 stands for a word that is none.
+use Prim.Native.Nat.{ℕ, _+_, _-_, _*_}
+use mathlib.Core.Bool.{Bool, true, false, cond, _&&_, _||_}
+use mathlib.Core.List.{List, [], _∷_}
+use lib.Dec.{ltb, eqb}
+use Rattle.queue.specs.declared.Stage.{Stage}
+use Rattle.queue.specs.declared.Stage.the-variants.{Idle, P1, P2, P3, T1, T2, T3, T4, B1, B2, B3, B4, B5, B6, B7}
+use Rattle.desk.specs.declared.Words.{Words}
+use Rattle.desk.specs.declared.Line.{Line}
+use Rattle.desk.specs.declared.Line.the-variants as line
+use Rattle.desk.specs.declared.Sizes.{Sizes}
+use Rattle.desk.specs.declared.Sizes.the-variants as sizes
+
+-- a space, a tab or a carriage return
+abbrev pub blank : ℕ → Bool
+blank c = (eqb c 32 || eqb c 9) || eqb c 13
+
+-- a small letter as a capital, any other byte as it is
+abbrev pub capital : ℕ → ℕ
+capital c = cond (ltb c 97) c (cond (ltb 122 c) c (c - 32))
+
+-- a name with one letter more: base 256, from 1 on; from the fifth letter on it is no stage's
+abbrev pub spelled : ℕ → ℕ → ℕ
+spelled name c = cond (ltb name 1099511627776) (256 * name + capital c) name
+
+-- a number with one digit more
+abbrev pub counted : ℕ → ℕ → ℕ
+counted n c = cond (ltb c 48) 65536 (cond (ltb 57 c) 65536 (cond (ltb 65535 (10 * n + (c - 48))) 65536 (10 * n + (c - 48))))
+
+-- which word a byte that is no blank belongs to, the sixth and all after it as one
+abbrev pub wordAt : Bool → ℕ → ℕ
+wordAt inside count = cond inside count (cond (ltb count 6) (count + 1) 6)
+
+-- the words with one byte more: it lengthens the word that it belongs to, and alters no other
+abbrev pub longer : Words → ℕ → ℕ → Words
+longer w at c = record {
+  inside = true;
+  count = at;
+  name = cond (eqb at 1) (spelled (w .name) c) (w .name);
+  a = cond (eqb at 2) (counted (w .a) c) (w .a);
+  b = cond (eqb at 3) (counted (w .b) c) (w .b);
+  c = cond (eqb at 4) (counted (w .c) c) (w .c);
+  d = cond (eqb at 5) (counted (w .d) c) (w .d);
+}
+
+abbrev pub ended : Words → Words
+ended w = record { inside = false; count = w .count; name = w .name; a = w .a; b = w .b; c = w .c; d = w .d }
+
+abbrev pub fed : Words → ℕ → Words
+fed w c = cond (blank c) (ended w) (longer w (wordAt (w .inside) (w .count)) c)
+
+abbrev pub start : ℕ → Words
+start before = record { inside = false; count = before; name = 1; a = 0; b = 0; c = 0; d = 0 }
+
+abbrev pub wordsOf : Words → List ℕ → Words
+wordsOf w [] = w
+wordsOf w (c ∷ s) = wordsOf (fed w c) s
+
+abbrev pub small : ℕ → ℕ
+small n = cond (ltb n 65536) n 0
+
+abbrev pub numbers : Words → Bool
+numbers w = ((ltb (w .a) 65536 && ltb (w .b) 65536) && ltb (w .c) 65536) && ltb (w .d) 65536
+
+-- a stage whose line has so many words, its name among them
+abbrev pub taken : Words → ℕ → Stage → Line
+taken w words s = cond (eqb (w .count) words) (cond (numbers w) (line.Stage s) (line.NoNumber s)) (line.Count s)
+
+-- the name is this letter and this digit; P, T and B are 80, 84 and 66
+abbrev pub is : Words → ℕ → ℕ → Bool
+is w letter digit = eqb (w .name) (spelled (spelled 1 letter) (48 + digit))
+
+abbrev pub isIdle : Words → Bool
+isIdle w = eqb (w .name) (spelled (spelled (spelled (spelled 1 73) 68) 76) 69)
+
+abbrev pub stageAs : Words → ℕ → ℕ → ℕ → ℕ → Line
+stageAs w a b c d =
+    cond (isIdle w) (taken w 1 Idle)
+    (cond (is w 80 1) (taken w 2 (P1 a))
+    (cond (is w 80 2) (taken w 3 (P2 a b))
+    (cond (is w 80 3) (taken w 2 (P3 a))
+    (cond (is w 84 1) (taken w 1 T1)
+    (cond (is w 84 2) (taken w 3 (T2 a b))
+    (cond (is w 84 3) (taken w 4 (T3 a b c))
+    (cond (is w 84 4) (taken w 5 (T4 a b c d))
+    (cond (is w 66 1) (taken w 1 B1)
+    (cond (is w 66 2) (taken w 2 (B2 a))
+    (cond (is w 66 3) (taken w 2 (B3 a))
+    (cond (is w 66 4) (taken w 3 (B4 a b))
+    (cond (is w 66 5) (taken w 5 (B5 a b c d))
+    (cond (is w 66 6) (taken w 5 (B6 a b c d))
+    (cond (is w 66 7) (taken w 5 (B7 a b c d))
+    line.NoStage))))))))))))))
+
+abbrev pub stageOf : Words → Line
+stageOf w = stageAs w (small (w .a)) (small (w .b)) (small (w .c)) (small (w .d))
+
+-- a stage line
+abbrev pub lineIn : Words → Line
+lineIn w = cond (eqb (w .count) 0) line.Nothing (stageOf w)
+
+abbrev pub lineOf : List ℕ → Line
+lineOf s = lineIn (wordsOf (start 0) s)
+
+-- a line of W and C: they are the words after a name, which counts as read
+abbrev pub sizesIn : Words → Sizes
+sizesIn w =
+    cond (eqb (w .count) 1) sizes.Nothing
+    (cond (eqb (w .count) 3)
+    (cond (ltb (w .a) 1) sizes.Width
+    (cond (ltb 16 (w .a)) sizes.Width
+    (cond (ltb (w .b) 1) sizes.Size
+    (cond (ltb 64 (w .b)) sizes.Size
+    (sizes.Good (w .a) (w .b))))))
+    sizes.NotTwo)
+
+abbrev pub sizesOf : List ℕ → Sizes
+sizesOf s = sizesIn (wordsOf (start 1) s)
