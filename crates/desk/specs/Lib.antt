@@ -1,3 +1,5 @@
+pub mod Text
 pub mod Line
 pub mod LineLaws
+pub mod Worked
 pub mod Settled

@@ -3,9 +3,11 @@
 use Prim.Native.Nat.{ℕ, _+_, _-_, _*_}
 use mathlib.Core.Bool.{Bool, true, false, cond, _&&_, _||_}
 use mathlib.Core.List.{List, [], _∷_}
+use Prim.Native.String.{String}
 use lib.Dec.{ltb, eqb}
 use Rattle.queue.specs.declared.Stage.{Stage}
 use Rattle.queue.specs.declared.Stage.the-variants.{Idle, P1, P2, P3, T1, T2, T3, T4, B1, B2, B3, B4, B5, B6, B7}
+use Rattle.desk.specs.Text.{typed}
 use Rattle.desk.specs.declared.Words.{Words}
 use Rattle.desk.specs.declared.Line.{Line}
 use Rattle.desk.specs.declared.Line.the-variants as line
@@ -67,30 +69,31 @@ numbers w = ((ltb (w .a) 65536 && ltb (w .b) 65536) && ltb (w .c) 65536) && ltb 
 abbrev pub taken : Words → ℕ → Stage → Line
 taken w words s = cond (eqb (w .count) words) (cond (numbers w) (line.Stage s) (line.NoNumber s)) (line.Count s)
 
--- the name is this letter and this digit; P, T and B are 80, 84 and 66
-abbrev pub is : Words → ℕ → ℕ → Bool
-is w letter digit = eqb (w .name) (spelled (spelled 1 letter) (48 + digit))
+-- the name that bytes spell
+abbrev pub spelling : ℕ → List ℕ → ℕ
+spelling name [] = name
+spelling name (c ∷ s) = spelling (spelled name c) s
 
-abbrev pub isIdle : Words → Bool
-isIdle w = eqb (w .name) (spelled (spelled (spelled (spelled 1 73) 68) 76) 69)
+abbrev pub is : Words → String → Bool
+is w name = eqb (w .name) (spelling 1 (typed name))
 
 abbrev pub stageAs : Words → ℕ → ℕ → ℕ → ℕ → Line
 stageAs w a b c d =
-    cond (isIdle w) (taken w 1 Idle)
-    (cond (is w 80 1) (taken w 2 (P1 a))
-    (cond (is w 80 2) (taken w 3 (P2 a b))
-    (cond (is w 80 3) (taken w 2 (P3 a))
-    (cond (is w 84 1) (taken w 1 T1)
-    (cond (is w 84 2) (taken w 3 (T2 a b))
-    (cond (is w 84 3) (taken w 4 (T3 a b c))
-    (cond (is w 84 4) (taken w 5 (T4 a b c d))
-    (cond (is w 66 1) (taken w 1 B1)
-    (cond (is w 66 2) (taken w 2 (B2 a))
-    (cond (is w 66 3) (taken w 2 (B3 a))
-    (cond (is w 66 4) (taken w 3 (B4 a b))
-    (cond (is w 66 5) (taken w 5 (B5 a b c d))
-    (cond (is w 66 6) (taken w 5 (B6 a b c d))
-    (cond (is w 66 7) (taken w 5 (B7 a b c d))
+    cond (is w "idle") (taken w 1 Idle)
+    (cond (is w "P1") (taken w 2 (P1 a))
+    (cond (is w "P2") (taken w 3 (P2 a b))
+    (cond (is w "P3") (taken w 2 (P3 a))
+    (cond (is w "T1") (taken w 1 T1)
+    (cond (is w "T2") (taken w 3 (T2 a b))
+    (cond (is w "T3") (taken w 4 (T3 a b c))
+    (cond (is w "T4") (taken w 5 (T4 a b c d))
+    (cond (is w "B1") (taken w 1 B1)
+    (cond (is w "B2") (taken w 2 (B2 a))
+    (cond (is w "B3") (taken w 2 (B3 a))
+    (cond (is w "B4") (taken w 3 (B4 a b))
+    (cond (is w "B5") (taken w 5 (B5 a b c d))
+    (cond (is w "B6") (taken w 5 (B6 a b c d))
+    (cond (is w "B7") (taken w 5 (B7 a b c d))
     line.NoStage))))))))))))))
 
 abbrev pub stageOf : Words → Line
