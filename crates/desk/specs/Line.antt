@@ -11,8 +11,10 @@ use Rattle.desk.specs.Text.{typed}
 use Rattle.desk.specs.declared.Words.{Words}
 use Rattle.desk.specs.declared.Line.{Line}
 use Rattle.desk.specs.declared.Line.the-variants as line
+use Rattle.desk.specs.declared.Why.the-variants.{Nothing, NoStage, Count, NoNumber}
 use Rattle.desk.specs.declared.Sizes.{Sizes}
 use Rattle.desk.specs.declared.Sizes.the-variants as sizes
+use Rattle.desk.specs.declared.SizesWhy.the-variants as sizes-why
 
 -- a space, a tab or a carriage return
 abbrev pub blank : ℕ → Bool
@@ -67,7 +69,7 @@ numbers w = ((ltb (w .a) 65536 && ltb (w .b) 65536) && ltb (w .c) 65536) && ltb 
 
 -- a stage whose line has so many words, its name among them
 abbrev pub taken : Words → ℕ → Stage → Line
-taken w words s = cond (eqb (w .count) words) (cond (numbers w) (line.Stage s) (line.NoNumber s)) (line.Count s)
+taken w words s = cond (eqb (w .count) words) (cond (numbers w) (line.Stage s) (line.Wrong (NoNumber s))) (line.Wrong (Count s))
 
 -- the name that bytes spell
 abbrev pub spelling : ℕ → List ℕ → ℕ
@@ -94,14 +96,14 @@ stageAs w a b c d =
     (cond (is w "B5") (taken w 5 (B5 a b c d))
     (cond (is w "B6") (taken w 5 (B6 a b c d))
     (cond (is w "B7") (taken w 5 (B7 a b c d))
-    line.NoStage))))))))))))))
+    (line.Wrong NoStage)))))))))))))))
 
 abbrev pub stageOf : Words → Line
 stageOf w = stageAs w (small (w .a)) (small (w .b)) (small (w .c)) (small (w .d))
 
 -- a stage line
 abbrev pub lineIn : Words → Line
-lineIn w = cond (eqb (w .count) 0) line.Nothing (stageOf w)
+lineIn w = cond (eqb (w .count) 0) (line.Wrong Nothing) (stageOf w)
 
 abbrev pub lineOf : List ℕ → Line
 lineOf s = lineIn (wordsOf (start 0) s)
@@ -109,14 +111,14 @@ lineOf s = lineIn (wordsOf (start 0) s)
 -- a line of W and C: they are the words after a name, which counts as read
 abbrev pub sizesIn : Words → Sizes
 sizesIn w =
-    cond (eqb (w .count) 1) sizes.Nothing
+    cond (eqb (w .count) 1) (sizes.Wrong sizes-why.Nothing)
     (cond (eqb (w .count) 3)
-    (cond (ltb (w .a) 1) sizes.Width
-    (cond (ltb 16 (w .a)) sizes.Width
-    (cond (ltb (w .b) 1) sizes.Size
-    (cond (ltb 64 (w .b)) sizes.Size
+    (cond (ltb (w .a) 1) (sizes.Wrong sizes-why.Width)
+    (cond (ltb 16 (w .a)) (sizes.Wrong sizes-why.Width)
+    (cond (ltb (w .b) 1) (sizes.Wrong sizes-why.Size)
+    (cond (ltb 64 (w .b)) (sizes.Wrong sizes-why.Size)
     (sizes.Good (w .a) (w .b))))))
-    sizes.NotTwo)
+    (sizes.Wrong sizes-why.NotTwo))
 
 abbrev pub sizesOf : List ℕ → Sizes
 sizesOf s = sizesIn (wordsOf (start 1) s)

@@ -5,9 +5,12 @@ use Prim.Native.Nat.{ℕ}
 use Prim.Native.String.{String}
 use Rattle.queue.specs.declared.Stage.the-variants.{Idle, P1, P2, P3, T1, T2, T3, T4, B1, B2, B3, B4, B5, B6, B7}
 use Rattle.desk.specs.declared.Line.{Line}
-use Rattle.desk.specs.declared.Line.the-variants.{Stage, Nothing, NoStage, Count, NoNumber}
+use Rattle.desk.specs.declared.Line.the-variants.{Stage, Wrong}
+use Rattle.desk.specs.declared.Why.the-variants.{Nothing, NoStage, Count, NoNumber}
 use Rattle.desk.specs.declared.Sizes.{Sizes}
 use Rattle.desk.specs.declared.Sizes.the-variants as sizes
+use Rattle.desk.specs.declared.SizesWhy.{SizesWhy}
+use Rattle.desk.specs.declared.SizesWhy.the-variants as sizes-why
 use Rattle.desk.specs.Text.{typed}
 use Rattle.desk.specs.Line.{lineOf, sizesOf}
 
@@ -45,35 +48,35 @@ cases =
     -- numbers to 65,535
     ("P1 0" says Stage (P1 0)) ∷
     ("P1 65535" says Stage (P1 65535)) ∷
-    ("P1 65536" says NoNumber (P1 0)) ∷
-    ("P1 99999999999999999999" says NoNumber (P1 0)) ∷
-    ("P1 7x" says NoNumber (P1 0)) ∷
-    ("P1 -7" says NoNumber (P1 0)) ∷
-    ("T3 1 2 T" says NoNumber (T3 1 2 0)) ∷
+    ("P1 65536" says Wrong (NoNumber (P1 0))) ∷
+    ("P1 99999999999999999999" says Wrong (NoNumber (P1 0))) ∷
+    ("P1 7x" says Wrong (NoNumber (P1 0))) ∷
+    ("P1 -7" says Wrong (NoNumber (P1 0))) ∷
+    ("T3 1 2 T" says Wrong (NoNumber (T3 1 2 0))) ∷
     -- a word too many, and too few
-    ("T1 0" says Count T1) ∷
-    ("T2 1" says Count (T2 1 0)) ∷
-    ("T3 1 2 3 4" says Count (T3 1 2 3)) ∷
-    ("B7 1 2 3" says Count (B7 1 2 3 0)) ∷
-    ("B7 1 2 3 4 5" says Count (B7 1 2 3 4)) ∷
-    ("B7 1 2 3 4 5 6 7 8" says Count (B7 1 2 3 4)) ∷
-    ("P1" says Count (P1 0)) ∷
+    ("T1 0" says Wrong (Count T1)) ∷
+    ("T2 1" says Wrong (Count (T2 1 0))) ∷
+    ("T3 1 2 3 4" says Wrong (Count (T3 1 2 3))) ∷
+    ("B7 1 2 3" says Wrong (Count (B7 1 2 3 0))) ∷
+    ("B7 1 2 3 4 5" says Wrong (Count (B7 1 2 3 4))) ∷
+    ("B7 1 2 3 4 5 6 7 8" says Wrong (Count (B7 1 2 3 4))) ∷
+    ("P1" says Wrong (Count (P1 0))) ∷
     -- the number of words is looked at before they are
-    ("P1 x y" says Count (P1 0)) ∷
+    ("P1 x y" says Wrong (Count (P1 0))) ∷
     -- no stage
-    ("P4 1" says NoStage) ∷
-    ("T5" says NoStage) ∷
-    ("B8 1" says NoStage) ∷
-    ("P" says NoStage) ∷
-    ("P11" says NoStage) ∷
-    ("P17" says NoStage) ∷
-    ("idles" says NoStage) ∷
-    ("8 4" says NoStage) ∷
-    ("\u{0}T1" says NoStage) ∷
-    ("T1\u{0}" says NoStage) ∷
+    ("P4 1" says Wrong NoStage) ∷
+    ("T5" says Wrong NoStage) ∷
+    ("B8 1" says Wrong NoStage) ∷
+    ("P" says Wrong NoStage) ∷
+    ("P11" says Wrong NoStage) ∷
+    ("P17" says Wrong NoStage) ∷
+    ("idles" says Wrong NoStage) ∷
+    ("8 4" says Wrong NoStage) ∷
+    ("\u{0}T1" says Wrong NoStage) ∷
+    ("T1\u{0}" says Wrong NoStage) ∷
     -- nothing
-    ("" says Nothing) ∷
-    (" \t\r" says Nothing) ∷
+    ("" says Wrong Nothing) ∷
+    (" \t\r" says Wrong Nothing) ∷
     []
 
 pub worked : map (λ (c : Case). lineOf (typed (c .text))) cases ≡ map (λ (c : Case). c .line) cases
@@ -82,11 +85,14 @@ worked = refl
 abbrev read : List String → List Sizes
 read = map (λ (s : String). sizesOf (typed s))
 
+abbrev wrong : List SizesWhy → List Sizes
+wrong = map (λ (w : SizesWhy). sizes.Wrong w)
+
 -- W is 1 to 16, C 1 to 64
 pub sizes-worked :
     (read ("8 4" ∷ " 1\t1 \r" ∷ "16 64" ∷ []) ≡ sizes.Good 8 4 ∷ sizes.Good 1 1 ∷ sizes.Good 16 64 ∷ [])
-    × (read ("0 4" ∷ "17 4" ∷ "x 4" ∷ "65552 4" ∷ "0 0" ∷ []) ≡ sizes.Width ∷ sizes.Width ∷ sizes.Width ∷ sizes.Width ∷ sizes.Width ∷ [])
-    × (read ("8 0" ∷ "8 65" ∷ "8 4x" ∷ "8 65600" ∷ []) ≡ sizes.Size ∷ sizes.Size ∷ sizes.Size ∷ sizes.Size ∷ [])
-    × (read ("8" ∷ "8 4 2" ∷ "1 2 3 4 5 6 7 8 9" ∷ []) ≡ sizes.NotTwo ∷ sizes.NotTwo ∷ sizes.NotTwo ∷ [])
-    × (read ("" ∷ " " ∷ []) ≡ sizes.Nothing ∷ sizes.Nothing ∷ [])
+    × (read ("0 4" ∷ "17 4" ∷ "x 4" ∷ "65552 4" ∷ []) ≡ wrong (sizes-why.Width ∷ sizes-why.Width ∷ sizes-why.Width ∷ sizes-why.Width ∷ []))
+    × (read ("8 0" ∷ "8 65" ∷ "8 4x" ∷ "8 65600" ∷ []) ≡ wrong (sizes-why.Size ∷ sizes-why.Size ∷ sizes-why.Size ∷ sizes-why.Size ∷ []))
+    × (read ("8" ∷ "8 4 2" ∷ "1 2 3 4 5 6 7 8 9" ∷ []) ≡ wrong (sizes-why.NotTwo ∷ sizes-why.NotTwo ∷ sizes-why.NotTwo ∷ []))
+    × (read ("" ∷ " \t" ∷ []) ≡ wrong (sizes-why.Nothing ∷ sizes-why.Nothing ∷ []))
 sizes-worked = (refl, refl, refl, refl, refl)

@@ -24,9 +24,14 @@ const B7: u64 = 0x14237;
 // What stands for a word that is no number from 0 to 65,535.
 const NO_NUMBER: u32 = 65536;
 
-// What a stage line says. Count and NoNumber have the stage that was meant, for its name.
+// What a stage line says, or what is wrong with it.
 pub enum Line {
     Stage(Stage),
+    Wrong(Why),
+}
+
+// Nothing on the line; no such stage; not that many numbers for the stage that was meant; a word that is no number there.
+pub enum Why {
     Nothing,
     NoStage,
     Count(Stage),
@@ -36,6 +41,11 @@ pub enum Line {
 // What a line of W and C says, or what is wrong with it.
 pub enum Sizes {
     Good { width: u8, size: u8 },
+    Wrong(SizesWhy),
+}
+
+// Nothing on the line; not two words; W is no number from 1 to 16; C is no number from 1 to 64.
+pub enum SizesWhy {
     Nothing,
     NotTwo,
     Width,
@@ -185,12 +195,14 @@ fn taken(words: Words, takes: u8, stage: Stage) -> Line
     ensures { λ r. ⌜ r ≡ takenAs words takes stage ⌝ }
 {
     if words.count != takes {
-        return Line::Count(stage);
+        let why = Why::Count(stage);
+        return Line::Wrong(why);
     }
     if all_numbers(words) {
         Line::Stage(stage)
     } else {
-        Line::NoNumber(stage)
+        let why = Why::NoNumber(stage);
+        Line::Wrong(why)
     }
 }
 
@@ -219,7 +231,7 @@ fn stage_of(words: Words) -> Line
         B5 => taken(words, 5, Stage::B5 { b: a, x: b, t: c, g: d }),
         B6 => taken(words, 5, Stage::B6 { b: a, x: b, t: c, g: d }),
         B7 => taken(words, 5, Stage::B7 { b: a, x: b, t: c, g: d }),
-        _ => Line::NoStage,
+        _ => Line::Wrong(Why::NoStage),
     }
 }
 
@@ -229,7 +241,7 @@ pub fn read_stage(line: &[u8]) -> Line
 {
     let words = words_of(line, 0);
     if words.count == 0 {
-        return Line::Nothing;
+        return Line::Wrong(Why::Nothing);
     }
     stage_of(words)
 }
@@ -240,24 +252,24 @@ pub fn read_sizes(line: &[u8]) -> Sizes
 {
     let words = words_of(line, 1);
     if words.count == 1 {
-        return Sizes::Nothing;
+        return Sizes::Wrong(SizesWhy::Nothing);
     }
     if words.count != 3 {
-        return Sizes::NotTwo;
+        return Sizes::Wrong(SizesWhy::NotTwo);
     }
     let width = words.a;
     if width < 1 {
-        return Sizes::Width;
+        return Sizes::Wrong(SizesWhy::Width);
     }
     if 16 < width {
-        return Sizes::Width;
+        return Sizes::Wrong(SizesWhy::Width);
     }
     let size = words.b;
     if size < 1 {
-        return Sizes::Size;
+        return Sizes::Wrong(SizesWhy::Size);
     }
     if 64 < size {
-        return Sizes::Size;
+        return Sizes::Wrong(SizesWhy::Size);
     }
     let width = width as u8;
     let size = size as u8;

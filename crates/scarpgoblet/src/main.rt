@@ -1,9 +1,11 @@
 // The program: with no argument it runs the run file on standard input and prints its log, its counts and the judge's number; with
-// `judge` it judges the log on standard input.
+// `judge` it judges the log on standard input; with `desk` it steps a queue by the lines on standard input.
 use libc::STDERR_FILENO;
 use libc::STDIN_FILENO;
 use libc::STDOUT_FILENO;
 
+mod answers; // what the desk prints
+mod at_desk; // a queue stepped by hand
 mod print; // lines of numbers
 
 // One byte more than the longest good run file, which has 3 + (1 + 8) + (2 + 3 × 256) + (2 + 4,096) = 4,880. The rest of a longer file is not
@@ -66,6 +68,10 @@ fn main() {
     } else if words == 2 && check::same(&word[..n], b"judge") {
         if can_read() {
             judge();
+        }
+    } else if words == 2 && check::same(&word[..n], b"desk") {
+        if can_read() {
+            at_desk::run();
         }
     } else if words == 2 && check::same(&word[..n], b"help") {
         print::usage(STDOUT_FILENO);

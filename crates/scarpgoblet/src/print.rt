@@ -2,7 +2,7 @@
 use libc::STDOUT_FILENO;
 use log::Entry;
 
-fn text(bytes: &[u8]) {
+pub(crate) fn text(bytes: &[u8]) {
     io::write_all(STDOUT_FILENO, bytes);
 }
 
@@ -16,7 +16,7 @@ fn byte(word: &[u8], n: u8) {
     number(word, n as u64);
 }
 
-fn two_bytes(word: &[u8], n: u16) {
+pub(crate) fn two_bytes(word: &[u8], n: u16) {
     number(word, n as u64);
 }
 
@@ -70,6 +70,10 @@ pub(crate) fn usage(fd: i32) {
     io::write_all(
         fd,
         b"       scarpgoblet judge   judges the log on standard input\n",
+    );
+    io::write_all(
+        fd,
+        b"       scarpgoblet desk    steps a queue by the lines on standard input\n",
     );
     io::write_all(fd, b"       scarpgoblet help    prints this\n");
 }

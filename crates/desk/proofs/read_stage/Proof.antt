@@ -1,5 +1,6 @@
 use Rattle.desk.specs.Line.{lineIn}
-use Rattle.desk.specs.declared.Line.the-variants as line
+use Rattle.desk.specs.declared.Why.the-variants.{Nothing}
+use Rattle.desk.specs.declared.Line.the-variants.{Wrong}
 use borrow.Author.Tests.{eq-eqb, ne-eqb}
 use mathlib.Core.Path.{_≡_, ap, _∙_}
 use borrow.Author.Needs.{needs}
@@ -10,7 +11,7 @@ words-of-requires : tie.Need-words-of-requires
 words-of-requires c κs = search needs
 
 returns : tie.Need-returns
-returns c = let e : line.Nothing ≡ lineIn (c .before .before .words-of .result) = rw (eq-eqb _ _ (c .if1 .taken)) in e ∙ ap lineIn (c .before .before .words-of .ensures)
+returns c = let e : Wrong Nothing ≡ lineIn (c .before .before .words-of .result) = rw (eq-eqb _ _ (c .if1 .taken)) in e ∙ ap lineIn (c .before .before .words-of .ensures)
 
 stage-of-requires : tie.Need-stage-of-requires
 stage-of-requires c κs = search needs
