@@ -1,4 +1,4 @@
--- Reading a line byte by byte: the next byte, and the end.
+-- Reading a line byte by byte: the next byte, and the end. And what is known of C.
 use Prim.Native.Nat.{ℕ, zero, suc, _+_, _<_, _≤_}
 use mathlib.Core.Path.{_≡_, refl, sym, ap, _∙_}
 use mathlib.Core.List.{List, [], _∷_}
@@ -6,7 +6,10 @@ use native.Mathlib.Omega.{arith}
 use lib.ListN.{length, getD, drop}
 use lib.Seq.{drop-cons}
 use Rattle.desk.specs.declared.Words.{Words}
-use Rattle.desk.specs.Line.{fed, wordsOf}
+use Rattle.desk.specs.declared.Sizes.{Sizes}
+use Rattle.desk.specs.declared.Sizes.the-variants.{Good}
+use Rattle.desk.specs.CaseLaws.{if-eq, if-lt}
+use Rattle.desk.specs.Line.{start, fed, wordsOf, sizesIn, sizesOf}
 
 -- the byte at i makes w into v
 pub words-next : (s : List ℕ) (w v : Words) (i : ℕ) → i < length s → v ≡ fed w (getD s i 0) → wordsOf v (drop (i + 1) s) ≡ wordsOf w (drop i s)
@@ -19,3 +22,21 @@ words-end [] w zero h = refl
 words-end [] w (suc i) h = refl
 words-end (c ∷ s) w zero h = absurd (omega arith)
 words-end (c ∷ s) w (suc i) h = words-end s w i (omega arith)
+
+-- a C that is read is at most 64
+pub size-most : (s : List ℕ) (W C : ℕ) → sizesOf s ≡ Good W C → C ≤ 64
+size-most s W C = go (wordsOf (start 1) s)
+  where
+    Q : Sizes → Type 0
+    Q r = r ≡ Good W C → C ≤ 64
+
+    go : (w : Words) → sizesIn w ≡ Good W C → C ≤ 64
+    go w =
+        if-eq Q (w .count) 1 (λ _ e. absurd (let z : _≡_ {A = ℕ} 0 1 = cc in omega arith))
+        (λ _. if-eq Q (w .count) 3
+        (λ _. if-lt Q (w .a) 1 (λ _ e. absurd (let z : _≡_ {A = ℕ} 0 1 = cc in omega arith))
+        (λ _. if-lt Q 16 (w .a) (λ _ e. absurd (let z : _≡_ {A = ℕ} 0 1 = cc in omega arith))
+        (λ _. if-lt Q (w .b) 1 (λ _ e. absurd (let z : _≡_ {A = ℕ} 0 1 = cc in omega arith))
+        (λ _. if-lt Q 64 (w .b) (λ _ e. absurd (let z : _≡_ {A = ℕ} 0 1 = cc in omega arith))
+        (λ l e. let d : w .b ≡ C = cc in omega arith)))))
+        (λ _ e. absurd (let z : _≡_ {A = ℕ} 0 1 = cc in omega arith)))

@@ -14,8 +14,11 @@ const LINE_BYTES: usize = 256;
 const LONG: usize = 257;
 const END: usize = 258;
 
-// What stands for the end of standard input among bytes.
-const NO_BYTE: u16 = 256;
+// The next byte of standard input, if there is one more.
+struct Got {
+    more: bool,
+    byte: u8,
+}
 
 // The word after a line, and whether there was a line.
 struct Turn {
@@ -23,11 +26,14 @@ struct Turn {
     word: Word,
 }
 
-// The next byte. A read that fails ends the input.
-fn get() -> u16 {
+// A read that fails ends the input.
+fn get() -> Got {
     let mut one = [0u8; 1];
     let n = io::read_full(STDIN_FILENO, &mut one);
-    if n == 0 { NO_BYTE } else { one[0] as u16 }
+    Got {
+        more: n != 0,
+        byte: one[0],
+    }
 }
 
 // Puts a byte after the n that are there, and answers how many there are then.
@@ -44,14 +50,14 @@ fn read_line(buffer: &mut [u8; LINE_BYTES]) -> usize {
     let mut n: usize = 0;
     let mut turns = u64::MAX; // a proved loop has to end, and nothing says that a line does
     while turns > 0 {
-        let byte = get();
-        if byte == 10 {
-            return n;
-        }
-        if byte == NO_BYTE {
+        let got = get();
+        if !got.more {
             return if n == 0 { END } else { n };
         }
-        n = put(buffer, n, byte as u8);
+        if got.byte == b'\n' {
+            return n;
+        }
+        n = put(buffer, n, got.byte);
         turns -= 1;
     }
     END
@@ -68,7 +74,7 @@ fn step(width: u8, size: u8, word: Word, slots: &mut [u16], stage: Stage) -> Wor
 }
 
 // Answers a stage line.
-fn turn(width: u8, size: u8, word: Word, slots: &mut [u16]) -> Turn {
+fn answer_line(width: u8, size: u8, word: Word, slots: &mut [u16]) -> Turn {
     let mut buffer = [0u8; LINE_BYTES];
     let n = read_line(&mut buffer);
     if n == END {
@@ -119,7 +125,7 @@ fn steps(width: u8, size: u8)
     answers::end_line();
     let mut turns = u64::MAX;
     while turns > 0 {
-        let after = turn(width, size, word, slots);
+        let after = answer_line(width, size, word, slots);
         if !after.on {
             return;
         }
