@@ -79,27 +79,42 @@ spelling name (c ∷ s) = spelling (spelled name c) s
 abbrev pub is : Words → String → Bool
 is w name = eqb (w .name) (spelling 1 (typed name))
 
-abbrev pub stageAs : Words → ℕ → ℕ → ℕ → ℕ → Line
-stageAs w a b c d =
+-- the stages, each with how many words its line has, and where its numbers stand
+abbrev pub bottomAs : Words → ℕ → ℕ → ℕ → ℕ → Line
+bottomAs w b x t g =
+    cond (is w "B1") (taken w 1 B1)
+    (cond (is w "B2") (taken w 2 (B2 b))
+    (cond (is w "B3") (taken w 2 (B3 b))
+    (cond (is w "B4") (taken w 3 (B4 b x))
+    (cond (is w "B5") (taken w 5 (B5 b x t g))
+    (cond (is w "B6") (taken w 5 (B6 b x t g))
+    (cond (is w "B7") (taken w 5 (B7 b x t g))
+    (line.Wrong NoStage)))))))
+
+abbrev pub bottomOf : Words → Line
+bottomOf w = bottomAs w (small (w .a)) (small (w .b)) (small (w .c)) (small (w .d))
+
+abbrev pub topAs : Words → ℕ → ℕ → ℕ → ℕ → Line
+topAs w t g b x =
+    cond (is w "T1") (taken w 1 T1)
+    (cond (is w "T2") (taken w 3 (T2 t g))
+    (cond (is w "T3") (taken w 4 (T3 t g b))
+    (cond (is w "T4") (taken w 5 (T4 t g b x))
+    (bottomOf w))))
+
+abbrev pub topOf : Words → Line
+topOf w = topAs w (small (w .a)) (small (w .b)) (small (w .c)) (small (w .d))
+
+abbrev pub stageAs : Words → ℕ → ℕ → Line
+stageAs w first second =
     cond (is w "idle") (taken w 1 Idle)
-    (cond (is w "P1") (taken w 2 (P1 a))
-    (cond (is w "P2") (taken w 3 (P2 a b))
-    (cond (is w "P3") (taken w 2 (P3 a))
-    (cond (is w "T1") (taken w 1 T1)
-    (cond (is w "T2") (taken w 3 (T2 a b))
-    (cond (is w "T3") (taken w 4 (T3 a b c))
-    (cond (is w "T4") (taken w 5 (T4 a b c d))
-    (cond (is w "B1") (taken w 1 B1)
-    (cond (is w "B2") (taken w 2 (B2 a))
-    (cond (is w "B3") (taken w 2 (B3 a))
-    (cond (is w "B4") (taken w 3 (B4 a b))
-    (cond (is w "B5") (taken w 5 (B5 a b c d))
-    (cond (is w "B6") (taken w 5 (B6 a b c d))
-    (cond (is w "B7") (taken w 5 (B7 a b c d))
-    (line.Wrong NoStage)))))))))))))))
+    (cond (is w "P1") (taken w 2 (P1 first))
+    (cond (is w "P2") (taken w 3 (P2 first second))
+    (cond (is w "P3") (taken w 2 (P3 first))
+    (topOf w))))
 
 abbrev pub stageOf : Words → Line
-stageOf w = stageAs w (small (w .a)) (small (w .b)) (small (w .c)) (small (w .d))
+stageOf w = stageAs w (small (w .a)) (small (w .b))
 
 -- a stage line
 abbrev pub lineIn : Words → Line

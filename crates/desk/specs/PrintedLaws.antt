@@ -80,7 +80,6 @@ enough n h =
 -- a word that is counted in one place: `before` it, and `put n` once its number is n
 module _ (before : Words) (put : ℕ → Words) (begun : (c : ℕ) → blank c ≡ false → fed before c ≡ put (counted 0 c))
     (more : (n c : ℕ) → blank c ≡ false → fed (put n) c ≡ put (counted n c)) where
-
   rest : (n : ℕ) (s : List ℕ) → Solid s → wordsOf (put n) s ≡ put (counting n s)
   rest n [] h = refl
   rest n (c ∷ s) h = ap (λ (w : Words). wordsOf w s) (more n c (h .0)) ∙ rest (counted n c) s (h .1)
@@ -118,7 +117,7 @@ module _ (name a : ℕ) (ha : a < 65536) where
 
       four : (d : ℕ) → d < 65536
           → wordsOf (gap 1 name 0 0 0 0)
-            (digits (places a) a ++ 32 ∷ (digits (places b) b ++ 32 ∷ (digits (places c) c ++ 32 ∷ (digits (places d) d ++ []))))
+          (digits (places a) a ++ 32 ∷ (digits (places b) b ++ 32 ∷ (digits (places c) c ++ 32 ∷ (digits (places d) d ++ []))))
           ≡ at 5 name a b c d
       four d hd = three _ ∙ number (gap 4 name a b c 0) (λ (n : ℕ). at 5 name a b c n) (λ c e. rw e) (λ n c e. rw e) d hd []
 

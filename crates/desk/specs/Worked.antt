@@ -72,8 +72,8 @@ cases =
     ("P17" says Wrong NoStage) ∷
     ("idles" says Wrong NoStage) ∷
     ("8 4" says Wrong NoStage) ∷
-    ("\u{0}T1" says Wrong NoStage) ∷
-    ("T1\u{0}" says Wrong NoStage) ∷
+    ("\0T1" says Wrong NoStage) ∷
+    ("T1\0" says Wrong NoStage) ∷
     -- nothing
     ("" says Wrong Nothing) ∷
     (" \t\r" says Wrong Nothing) ∷

@@ -1,24 +1,38 @@
 // What a line typed at the desk says: first W and C, then a stage a line, with document 01's names and numbers. Words stand apart by blanks.
 ghost use mathlib.Core.Path.{_≡_};
 ghost use Prim.Native.Nat.{_<_};
-ghost use Rattle.desk.specs.Line.{blank, capital as capitalOf, spelled, counted, wordAt, fed, start, wordsOf, small, numbers, taken as takenAs, stageOf, lineOf, sizesOf};
+ghost use Rattle.desk.specs.Line.{blank, capital as capitalOf, spelled, counted, wordAt, fed, start, wordsOf, small, numbers, taken as takenAs, bottomOf, topOf, stageOf, lineOf, sizesOf};
 use queue::Stage;
 
 // The names, as `spell` spells them.
 const IDLE: u64 = 0x149444C45;
+
 const P1: u64 = 0x15031;
+
 const P2: u64 = 0x15032;
+
 const P3: u64 = 0x15033;
+
 const T1: u64 = 0x15431;
+
 const T2: u64 = 0x15432;
+
 const T3: u64 = 0x15433;
+
 const T4: u64 = 0x15434;
+
 const B1: u64 = 0x14231;
+
 const B2: u64 = 0x14232;
+
 const B3: u64 = 0x14233;
+
 const B4: u64 = 0x14234;
+
 const B5: u64 = 0x14235;
+
 const B6: u64 = 0x14236;
+
 const B7: u64 = 0x14237;
 
 // What stands for a word that is no number from 0 to 65,535.
@@ -148,11 +162,26 @@ fn feed(words: Words, byte: u8) -> Words
         ..words
     };
     match at {
-        1 => Words { name: spell(words.name, byte), ..begun },
-        2 => Words { a: count(words.a, byte), ..begun },
-        3 => Words { b: count(words.b, byte), ..begun },
-        4 => Words { c: count(words.c, byte), ..begun },
-        5 => Words { d: count(words.d, byte), ..begun },
+        1 => Words {
+            name: spell(words.name, byte),
+            ..begun
+        },
+        2 => Words {
+            a: count(words.a, byte),
+            ..begun
+        },
+        3 => Words {
+            b: count(words.b, byte),
+            ..begun
+        },
+        4 => Words {
+            c: count(words.c, byte),
+            ..begun
+        },
+        5 => Words {
+            d: count(words.d, byte),
+            ..begun
+        },
         _ => begun,
     }
 }
@@ -206,32 +235,65 @@ fn taken(words: Words, takes: u8, stage: Stage) -> Line
     }
 }
 
-// Each name, with how many words its line has.
+// The stages of a bottom pop, each with how many words its line has.
+fn bottom_of(words: Words) -> Line
+    ensures { λ r. ⌜ r ≡ bottomOf words ⌝ }
+{
+    let name = words.name;
+    let b = small_of(words.a);
+    let x = small_of(words.b);
+    let t = small_of(words.c);
+    let g = small_of(words.d);
+    match name {
+        B1 => taken(words, 1, Stage::B1),
+        B2 => taken(words, 2, Stage::B2 { b }),
+        B3 => taken(words, 2, Stage::B3 { b }),
+        B4 => taken(words, 3, Stage::B4 { b, x }),
+        B5 => taken(words, 5, Stage::B5 { b, x, t, g }),
+        B6 => taken(words, 5, Stage::B6 { b, x, t, g }),
+        B7 => taken(words, 5, Stage::B7 { b, x, t, g }),
+        _ => Line::Wrong(Why::NoStage),
+    }
+}
+
+// The stages of a top pop, or those above.
+fn top_of(words: Words) -> Line
+    ensures { λ r. ⌜ r ≡ topOf words ⌝ }
+{
+    let name = words.name;
+    let t = small_of(words.a);
+    let g = small_of(words.b);
+    let b = small_of(words.c);
+    let x = small_of(words.d);
+    match name {
+        T1 => taken(words, 1, Stage::T1),
+        T2 => taken(words, 3, Stage::T2 { t, g }),
+        T3 => taken(words, 4, Stage::T3 { t, g, b }),
+        T4 => taken(words, 5, Stage::T4 { t, g, b, x }),
+        _ => bottom_of(words),
+    }
+}
+
+// Idle and the stages of a push, or those above.
 fn stage_of(words: Words) -> Line
     ensures { λ r. ⌜ r ≡ stageOf words ⌝ }
 {
     let name = words.name;
-    let a = small_of(words.a);
-    let b = small_of(words.b);
-    let c = small_of(words.c);
-    let d = small_of(words.d);
+    let first = small_of(words.a);
+    let second = small_of(words.b);
     match name {
         IDLE => taken(words, 1, Stage::Idle),
-        P1 => taken(words, 2, Stage::P1 { node: a }),
-        P2 => taken(words, 3, Stage::P2 { node: a, b: b }),
-        P3 => taken(words, 2, Stage::P3 { b: a }),
-        T1 => taken(words, 1, Stage::T1),
-        T2 => taken(words, 3, Stage::T2 { t: a, g: b }),
-        T3 => taken(words, 4, Stage::T3 { t: a, g: b, b: c }),
-        T4 => taken(words, 5, Stage::T4 { t: a, g: b, b: c, x: d }),
-        B1 => taken(words, 1, Stage::B1),
-        B2 => taken(words, 2, Stage::B2 { b: a }),
-        B3 => taken(words, 2, Stage::B3 { b: a }),
-        B4 => taken(words, 3, Stage::B4 { b: a, x: b }),
-        B5 => taken(words, 5, Stage::B5 { b: a, x: b, t: c, g: d }),
-        B6 => taken(words, 5, Stage::B6 { b: a, x: b, t: c, g: d }),
-        B7 => taken(words, 5, Stage::B7 { b: a, x: b, t: c, g: d }),
-        _ => Line::Wrong(Why::NoStage),
+        P1 => taken(words, 2, Stage::P1 { node: first }),
+        P2 => taken(
+            words,
+            3,
+            Stage::P2 {
+                node: first,
+                b: second,
+            },
+        ),
+        P3 => taken(words, 2, Stage::P3 { b: first }),
+        _ => top_of(words),
     }
 }
 

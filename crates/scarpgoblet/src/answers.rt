@@ -11,17 +11,21 @@ pub(crate) fn end_line() {
     text(b"\n");
 }
 
+fn each(numbers: &[u16]) {
+    let mut i: usize = 0;
+    while i < numbers.len() {
+        two_bytes(b" ", numbers[i]);
+        i = i + 1;
+    }
+}
+
 // Bottom, top, tag, and the slots.
 pub(crate) fn queue(word: Word, slots: &[u16]) {
     two_bytes(b"word ", word.bottom);
     two_bytes(b" ", word.top);
     two_bytes(b" ", word.tag);
     text(b" slots");
-    let mut i: usize = 0;
-    while i < slots.len() {
-        two_bytes(b" ", slots[i]);
-        i = i + 1;
-    }
+    each(slots);
 }
 
 fn one(name: &[u8], a: u16) {
@@ -107,7 +111,9 @@ fn wanted(of: Stage) {
 pub(crate) fn not_run(why: Why) {
     text(b"not run: ");
     match why {
-        Why::Nothing => text(b"nothing on the line: a stage and its numbers are wanted, as in T2 0 0\n"),
+        Why::Nothing => text(
+            b"nothing on the line: a stage and its numbers are wanted, as in T2 0 0\n",
+        ),
         Why::NoStage => text(b"no such stage: they are idle, P1 to P3, T1 to T4 and B1 to B7\n"),
         Why::Count(meant) => wanted(meant),
         Why::NoNumber(meant) => {
@@ -119,7 +125,9 @@ pub(crate) fn not_run(why: Why) {
 
 pub(crate) fn not_opened(why: SizesWhy) {
     match why {
-        SizesWhy::Nothing => text(b"not run: nothing on the line: W and C are wanted first, as in 8 4\n"),
+        SizesWhy::Nothing => text(
+            b"not run: nothing on the line: W and C are wanted first, as in 8 4\n",
+        ),
         SizesWhy::NotTwo => text(b"not run: the first line takes 2 numbers: W C\n"),
         SizesWhy::Width => text(b"not run: W is a number from 1 to 16\n"),
         SizesWhy::Size => text(b"not run: C is a number from 1 to 64\n"),

@@ -12,6 +12,7 @@ const LINE_BYTES: usize = 256;
 
 // The lengths that stand for a longer line and for the end of standard input.
 const LONG: usize = 257;
+
 const END: usize = 258;
 
 // The next byte of standard input, if there is one more.
@@ -37,8 +38,8 @@ fn get() -> Got {
 }
 
 // Puts a byte after the n that are there, and answers how many there are then.
-fn put(buffer: &mut [u8; LINE_BYTES], n: usize, byte: u8) -> usize {
-    if n < LINE_BYTES {
+fn put(buffer: &mut [u8], n: usize, byte: u8) -> usize {
+    if n < buffer.len() {
         buffer[n] = byte;
         return n + 1;
     }
@@ -46,7 +47,7 @@ fn put(buffer: &mut [u8; LINE_BYTES], n: usize, byte: u8) -> usize {
 }
 
 // Reads a line and no byte of the next, and answers its length without the line end, which the last line may lack.
-fn read_line(buffer: &mut [u8; LINE_BYTES]) -> usize {
+fn read_line(buffer: &mut [u8]) -> usize {
     let mut n: usize = 0;
     let mut turns = u64::MAX; // a proved loop has to end, and nothing says that a line does
     while turns > 0 {

@@ -1,3 +1,4 @@
+-- The four tests are those of `numbers`.
 use mathlib.Core.Path.{refl}
 use Rattle.desk.proofs.all_numbers.Statement.{statement}
 use Rattle.desk.proofs.all_numbers.Tie as tie

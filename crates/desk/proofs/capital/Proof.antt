@@ -1,3 +1,4 @@
+-- Both tests are those of `capital`.
 use borrow.Author.Tests.{le-ltb, lt-ltb}
 use borrow.Author.Needs.{needs}
 use Rattle.desk.proofs.capital.Statement.{statement}

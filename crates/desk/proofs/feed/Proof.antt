@@ -1,3 +1,4 @@
+-- A blank ends the word; any other byte goes to the word that `wordAt` gives, and alters no other.
 use borrow.Author.Tests.{ne-eqb}
 use mathlib.Core.Path.{sym, _∙_}
 use borrow.Author.Needs.{needs}

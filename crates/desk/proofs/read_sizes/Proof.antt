@@ -1,3 +1,4 @@
+-- What `words_of` promises, with the tests of `sizesIn`.
 use Rattle.desk.specs.Line.{sizesIn}
 use Rattle.desk.specs.declared.Sizes.the-variants.{Good, Wrong}
 use Rattle.desk.specs.declared.SizesWhy.the-variants.{Nothing, NotTwo, Width, Size}
@@ -11,37 +12,37 @@ words-of-requires : tie.Need-words-of-requires
 words-of-requires c κs = search needs
 
 returns : tie.Need-returns
-returns c = 
+returns c =
     let w = c .before .before .words-of in
     let e : Wrong Nothing ≡ sizesIn (w .result) = rw (eq-eqb _ _ (c .if1 .taken)) in
     e ∙ ap sizesIn (w .ensures)
 
 returns-2 : tie.Need-returns-2
-returns-2 c = 
+returns-2 c =
     let w = c .before .before .before .before .words-of in
     let e : Wrong NotTwo ≡ sizesIn (w .result) = rw (ne-eqb _ _ (c .before .before .if1 .left), ne-eqb _ _ (c .if2 .taken)) in
     e ∙ ap sizesIn (w .ensures)
 
 returns-3 : tie.Need-returns-3
-returns-3 c = 
+returns-3 c =
     let w = c .before .before .before .before .before .words-of in
     let e : Wrong Width ≡ sizesIn (w .result) = rw (ne-eqb _ _ (c .before .before .before .if1 .left), eq-eqb _ _ (c .before .if2 .left), lt-ltb _ _ (c .if3 .taken)) in
     e ∙ ap sizesIn (w .ensures)
 
 returns-4 : tie.Need-returns-4
-returns-4 c = 
+returns-4 c =
     let w = c .before .before .before .before .before .before .words-of in
     let e : Wrong Width ≡ sizesIn (w .result) = rw (ne-eqb _ _ (c .before .before .before .before .if1 .left), eq-eqb _ _ (c .before .before .if2 .left), le-ltb _ _ (c .before .if3 .left), lt-ltb _ _ (c .if4 .taken)) in
     e ∙ ap sizesIn (w .ensures)
 
 returns-5 : tie.Need-returns-5
-returns-5 c = 
+returns-5 c =
     let w = c .before .before .before .before .before .before .before .words-of in
     let e : Wrong Size ≡ sizesIn (w .result) = rw (ne-eqb _ _ (c .before .before .before .before .before .if1 .left), eq-eqb _ _ (c .before .before .before .if2 .left), le-ltb _ _ (c .before .before .if3 .left), le-ltb _ _ (c .before .if4 .left), lt-ltb _ _ (c .if5 .taken)) in
     e ∙ ap sizesIn (w .ensures)
 
 returns-6 : tie.Need-returns-6
-returns-6 c = 
+returns-6 c =
     let w = c .before .before .before .before .before .before .before .before .words-of in
     let e : Wrong Size ≡ sizesIn (w .result) = rw (ne-eqb _ _ (c .before .before .before .before .before .before .if1 .left), eq-eqb _ _ (c .before .before .before .before .if2 .left), le-ltb _ _ (c .before .before .before .if3 .left), le-ltb _ _ (c .before .before .if4 .left), le-ltb _ _ (c .before .if5 .left), lt-ltb _ _ (c .if6 .taken)) in
     e ∙ ap sizesIn (w .ensures)
@@ -53,7 +54,7 @@ cast-size : tie.Need-cast-size
 cast-size c = search needs
 
 returns-7 : tie.Need-returns-7
-returns-7 c = 
+returns-7 c =
     let w = c .before .before .before .before .before .before .before .before .words-of in
     let e : Good (w .result .a) (w .result .b) ≡ sizesIn (w .result) = rw (ne-eqb _ _ (c .before .before .before .before .before .before .if1 .left), eq-eqb _ _ (c .before .before .before .before .if2 .left), le-ltb _ _ (c .before .before .before .if3 .left), le-ltb _ _ (c .before .before .if4 .left), le-ltb _ _ (c .before .if5 .left), le-ltb _ _ (c .if6 .left)) in
     e ∙ ap sizesIn (w .ensures)

@@ -1,3 +1,4 @@
+-- What `words_of` promises, with the stage as `stage_of` gives it.
 use Rattle.desk.specs.Line.{lineIn}
 use Rattle.desk.specs.declared.Why.the-variants.{Nothing}
 use Rattle.desk.specs.declared.Line.the-variants.{Wrong}
@@ -17,7 +18,7 @@ stage-of-requires : tie.Need-stage-of-requires
 stage-of-requires c κs = search needs
 
 returns-2 : tie.Need-returns-2
-returns-2 c = 
+returns-2 c =
     let w = c .before .before .before .words-of in
     let e : c .stage-of .result ≡ lineIn (w .result) = rw (ne-eqb _ _ (c .before .if1 .left)) (c .stage-of .ensures) in
     e ∙ ap lineIn (w .ensures)

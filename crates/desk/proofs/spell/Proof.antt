@@ -1,3 +1,4 @@
+-- The test is that of `spelled`.
 use borrow.Author.Tests.{le-ltb, lt-ltb}
 use borrow.Author.Needs.{needs}
 use Rattle.desk.proofs.spell.Statement.{statement}
