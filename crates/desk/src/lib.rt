@@ -68,14 +68,14 @@ pub enum SizesWhy {
 
 // What is known of a line's words so far: whether its last byte is in a word, how many have begun (6 for more), the name that the first spells,
 // and the four after it as numbers.
-pub struct Words {
-    pub inside: bool,
-    pub count: u8,
-    pub name: u64,
-    pub a: u32,
-    pub b: u32,
-    pub c: u32,
-    pub d: u32,
+struct Words {
+    inside: bool,
+    count: u8,
+    name: u64,
+    a: u32,
+    b: u32,
+    c: u32,
+    d: u32,
 }
 
 fn u8_to_u64(x: u8) -> u64

@@ -36,7 +36,12 @@ returns-5 : tie.Need-returns-5
 returns-5 c =
     let a = c .before .before .before .before .before .args in
     let h : 10 * a .n + (a .byte - 48) ≤ 65535 = omega (arith, c .if4 .left, c .before .u8-to-u32 .ensures) in
-    rw (c .before .u8-to-u32 .ensures .0, le-ltb _ _ (c .before .before .before .before .if1 .left), le-ltb _ _ (c .before .before .before .if2 .left), le-ltb _ _ h)
+    rw (
+      c .before .u8-to-u32 .ensures .0,
+      le-ltb _ _ (c .before .before .before .before .if1 .left),
+      le-ltb _ _ (c .before .before .before .if2 .left),
+      le-ltb _ _ h,
+    )
 
 pub count-spec : {M : Type 1} → statement M
 count-spec =

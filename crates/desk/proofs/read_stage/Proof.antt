@@ -12,7 +12,10 @@ words-of-requires : tie.Need-words-of-requires
 words-of-requires c κs = search needs
 
 returns : tie.Need-returns
-returns c = let e : Wrong Nothing ≡ lineIn (c .before .before .words-of .result) = rw (eq-eqb _ _ (c .if1 .taken)) in e ∙ ap lineIn (c .before .before .words-of .ensures)
+returns c =
+    let w = c .before .before .words-of in
+    let e : Wrong Nothing ≡ lineIn (w .result) = rw (eq-eqb _ _ (c .if1 .taken)) in
+    e ∙ ap lineIn (w .ensures)
 
 stage-of-requires : tie.Need-stage-of-requires
 stage-of-requires c κs = search needs

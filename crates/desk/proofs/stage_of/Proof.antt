@@ -38,7 +38,13 @@ returns-4 : tie.Need-returns-4
 returns-4 c = rw (c .taken4 .ensures, c .before .before .before .small-of .ensures, c .before .match .keys4)
 
 returns-5 : tie.Need-returns-5
-returns-5 c = rw (ne-eqb _ _ (c .before .match .rest .0 .0 .0 .1), ne-eqb _ _ (c .before .match .rest .0 .0 .1), ne-eqb _ _ (c .before .match .rest .0 .1), ne-eqb _ _ (c .before .match .rest .1)) (c .top-of .ensures)
+returns-5 c =
+    rw (
+      ne-eqb _ _ (c .before .match .rest .0 .0 .0 .1),
+      ne-eqb _ _ (c .before .match .rest .0 .0 .1),
+      ne-eqb _ _ (c .before .match .rest .0 .1),
+      ne-eqb _ _ (c .before .match .rest .1),
+    ) (c .top-of .ensures)
 
 pub stage-of-spec : {M : Type 1} → statement M
 stage-of-spec =
