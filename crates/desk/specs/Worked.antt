@@ -1,7 +1,6 @@
 -- Lines, each with what it says, computed on the definitions that the readers are proved to follow.
 use mathlib.Core.Path.{_≡_, refl}
 use mathlib.Core.List.{List, [], _∷_, map}
-use Prim.Native.Nat.{ℕ}
 use Prim.Native.String.{String}
 use Rattle.queue.specs.declared.Stage.the-variants.{Idle, P1, P2, P3, T1, T2, T3, T4, B1, B2, B3, B4, B5, B6, B7}
 use Rattle.desk.specs.declared.Line.{Line}
