@@ -1,7 +1,8 @@
 // What a line typed at the desk says: first W and C, then a stage a line, with document 01's names and numbers. Words stand apart by blanks.
 ghost use mathlib.Core.Path.{_≡_};
 ghost use Prim.Native.Nat.{_<_};
-ghost use Rattle.desk.specs.Line.{blank, capital as capitalOf, spelled, counted, wordAt, fed, start, wordsOf, small, numbers, taken as takenAs, bottomOf, topOf, stageOf, lineOf, sizesOf};
+ghost use Rattle.desk.specs.Line.{blank, capital as capitalOf, spelled, counted, wordAt, fed, start, wordsOf, small, numbers};
+ghost use Rattle.desk.specs.Line.{taken as takenAs, bottomOf, topOf, stageOf, lineOf, sizesOf};
 use queue::Stage;
 
 // The names, as `spell` spells them.
@@ -107,7 +108,7 @@ fn capital(byte: u8) -> u8
     if b'z' < byte { byte } else { byte - 32 }
 }
 
-// The name with one letter more, in base 256; from 1 on, so that a byte 0 counts. Five letters are no name, and more need not be kept.
+// The name with one letter more, in base 256; from 1 on, so that a byte 0 counts. Five letters are no stage's name, and more need not be kept.
 fn spell(name: u64, byte: u8) -> u64
     ensures { λ r. ⌜ r ≡ spelled name byte ⌝ }
 {
@@ -219,11 +220,11 @@ fn all_numbers(words: Words) -> bool
     (words.a < NO_NUMBER) & (words.b < NO_NUMBER) & (words.c < NO_NUMBER) & (words.d < NO_NUMBER)
 }
 
-// A stage that takes so many numbers, from these words.
-fn taken(words: Words, takes: u8, stage: Stage) -> Line
-    ensures { λ r. ⌜ r ≡ takenAs words takes stage ⌝ }
+// A stage whose line has so many words, its name among them.
+fn taken(words: Words, wanted: u8, stage: Stage) -> Line
+    ensures { λ r. ⌜ r ≡ takenAs words wanted stage ⌝ }
 {
-    if words.count != takes {
+    if words.count != wanted {
         let why = Why::Count(stage);
         return Line::Wrong(why);
     }
@@ -235,7 +236,7 @@ fn taken(words: Words, takes: u8, stage: Stage) -> Line
     }
 }
 
-// The stages of a bottom pop, each with how many words its line has.
+// The stages of a bottom pop.
 fn bottom_of(words: Words) -> Line
     ensures { λ r. ⌜ r ≡ bottomOf words ⌝ }
 {

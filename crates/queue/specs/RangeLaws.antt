@@ -1,11 +1,9 @@
 -- `inRange` as facts on numbers, and back: what proofs use in place of the tests.
 use mathlib.Core.Path.{_≡_, refl, subst}
-use mathlib.Core.Bool.{Bool, true, false, _&&_, and-eq-true-iff}
+use mathlib.Core.Bool.{Bool, true, _&&_, and-eq-true-iff}
 use Prim.Native.Nat.{ℕ, _^_, _≤_, _<_}
-use lib.Dec.{leb, ltb, eqb}
 use borrow.Author.Tests.{ltb-true, leb-true, eqb-true, lt-ltb, le-leb, eq-eqb}
-use Rattle.queue.specs.Tag.{isTag}
-use Rattle.queue.specs.Range.{sizesIn, ageIn, wordIn, takeIn, popIn, stageIn, inRange}
+use Rattle.queue.specs.Range.{sizesIn, ageIn, takeIn, popIn, stageIn, inRange}
 use Rattle.queue.specs.declared.Word.{Word}
 use Rattle.queue.specs.declared.Stage.{Stage}
 use Rattle.queue.specs.declared.Stage.the-variants.{Idle, P1, P2, P3, T1, T2, T3, T4, B1, B2, B3, B4, B5, B6, B7}
