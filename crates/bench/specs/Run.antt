@@ -46,8 +46,11 @@ closed f = close (f .width) (f .size) closingSteps (play (f .width) (f .size) (f
 abbrev pub tableRow : Word → List ℕ → List ℕ
 tableRow w slots = w .bottom ∷ w .top ∷ w .tag ∷ slots
 
+abbrev pub inTable : ℕ → Word → List (List ℕ) → ℕ → ℕ → ℕ
+inTable P w slots q i = cond (ltb q P) (getD (tableRow w (getD slots q [])) i 0) 0
+
 abbrev pub tableAt : ℕ → Bench → List (List ℕ) → ℕ → ℕ
-tableAt P b slots k = cond (ltb (k / 67) P) (getD (tableRow (queueAt b (k / 67) .word) (getD slots (k / 67) [])) (k % 67) 0) 0
+tableAt P b slots k = inTable P (queueAt b (k / 67) .word) slots (k / 67) (k % 67)
 
 abbrev pub tableSize : ℕ
 tableSize = 536

@@ -1,5 +1,5 @@
 -- Laws of the start's shares and of the final table, as the program takes them.
-use Prim.Native.Nat.{ℕ, zero, suc, _+_, _-_, _*_, _/_, _%_, _≤_, _<_}
+use Prim.Native.Nat.{ℕ, zero, suc, _+_, _-_, _*_, _≤_, _<_}
 use mathlib.Core.Path.{_≡_, refl, sym, ap, _∙_}
 use mathlib.Core.List.{List, [], _∷_, _++_}
 use native.Mathlib.Numerals.{add-one}
@@ -13,9 +13,7 @@ use Rattle.runfile.specs.Check.{sum}
 use Rattle.runfile.specs.File.{firstLengths, callsBefore}
 use Rattle.bench.specs.Layout.{slotsOf, slotsIn}
 use Rattle.bench.specs.LayoutLaws.{slots-get, slot}
-use Rattle.bench.specs.Run.{tableRow, tableAt}
-use Rattle.bench.specs.State.{queueAt}
-use Rattle.bench.specs.declared.Bench.{Bench}
+use Rattle.bench.specs.Run.{tableRow, inTable}
 
 -- the calls before those of process p
 pub shares-below : (s : List ℕ) (P p : ℕ) → p < P → sum (take p (firstLengths s P)) ≡ callsBefore s p
@@ -39,13 +37,13 @@ module _ (w : Word) (C : ℕ) (flat : List ℕ) (q i : ℕ) (a : i ≡ 0 → ⊥
   row-end h =
       sym (row-past w (slotsOf C flat q) i a b c ∙ List·getD-eq-default (slotsOf C flat q) 0 {n = i - 3} (omega (arith, length-take C (drop (64 * q) flat))))
 
--- number k of the table
-module _ (P C : ℕ) (b : Bench) (flat : List ℕ) (k : ℕ) where
-  pub table-in : P ≤ 8 → k / 67 < P → getD (tableRow (queueAt b (k / 67) .word) (slotsOf C flat (k / 67))) (k % 67) 0 ≡ tableAt P b (slotsIn C flat) k
-  table-in most h = rw (lt-ltb (k / 67) P h, slots-get C flat (k / 67) (omega arith))
+-- number i of a queue's row in the table
+module _ (P C : ℕ) (w : Word) (flat : List ℕ) (q i : ℕ) where
+  pub table-in : P ≤ 8 → q < P → getD (tableRow w (slotsOf C flat q)) i 0 ≡ inTable P w (slotsIn C flat) q i
+  table-in most h = rw (lt-ltb q P h) (ap (λ (l : List ℕ). getD (tableRow w l) i 0) (sym (slots-get C flat q (omega arith))))
 
-  pub table-past : P ≤ k / 67 → 0 ≡ tableAt P b (slotsIn C flat) k
-  table-past h = rw (le-ltb (k / 67) P h)
+  pub table-past : P ≤ q → 0 ≡ inTable P w (slotsIn C flat) q i
+  table-past h = rw (le-ltb q P h)
 
 -- a list filled from the front
 module _ (f : ℕ → ℕ) where

@@ -4,9 +4,8 @@ ghost use Prim.Native.Nat.{_≤_, _<_};
 ghost use lib.ListN.{length, getD};
 ghost use Rattle.log.specs.Encode.{listOf};
 ghost use Rattle.bench.specs.Layout.{slotsOf, slotsIn};
-ghost use Rattle.bench.specs.Run.{tableRow, tableAt, tableSize};
+ghost use Rattle.bench.specs.Run.{tableRow, inTable, tableAt, tableSize};
 use crate::Bench;
-use crate::turn::queue_at;
 use queue::Word;
 
 // Number i of a queue's row: bottom, top, tag, the slots, and 0 past them.
@@ -31,16 +30,12 @@ fn in_row(word: Word, size: u8, slots: &[u16], q: usize, i: usize) -> u16
     }
 }
 
-// Number k of the table.
-fn table_at(processes: u8, size: u8, state: Bench, slots: &[u16], k: usize) -> u16
-    requires { ⌜ (length (now slots) ≡ 512) × (size ≤ 64) × (processes ≤ 8) × (length (state .queues) ≡ 8) ⌝ }
-    ensures { λ r. ⌜ r ≡ tableAt processes state (slotsIn size (now (slots .entry))) k ⌝ }
+// Number i of queue q's row in the table; a queue that no process owns has 0 there.
+fn in_table(processes: u8, size: u8, word: Word, slots: &[u16], q: usize, i: usize) -> u16
+    requires { ⌜ (length (now slots) ≡ 512) × (size ≤ 64) × (processes ≤ 8) ⌝ }
+    ensures { λ r. ⌜ r ≡ inTable processes word (slotsIn size (now (slots .entry))) q i ⌝ }
 {
-    let q = k / 67;
-    let i = k % 67;
     if q < processes as usize {
-        let queue = queue_at(state, q as u8);
-        let word = queue.word;
         in_row(word, size, slots, q, i)
     } else {
         0
@@ -53,7 +48,10 @@ pub(crate) fn fill(table: &mut [u16], processes: u8, size: u8, state: Bench, slo
 {
     let mut k: usize = 0;
     while k < 536 {
-        table[k] = table_at(processes, size, state, slots, k);
+        let q = k / 67;
+        let queue = state.queues[q];
+        let word = queue.word;
+        table[k] = in_table(processes, size, word, slots, q, k % 67);
         k = k + 1;
     }
 }

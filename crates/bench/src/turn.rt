@@ -6,10 +6,8 @@ ghost use lib.ListN.{length, getD};
 ghost use Rattle.queue.specs.Step.{still};
 ghost use Rattle.queue.specs.StepLaws.{stageAfter};
 ghost use Rattle.bench.specs.Layout.{putEntries, StepsIn, Moves};
-ghost use Rattle.bench.specs.State.{queueAt};
 ghost use Rattle.runfile.specs.File.{firstCalls};
 ghost use Rattle.bench.specs.Turn.{firstStage, begun as begunOf, processAfter, queueAfter, isRefused, count as countOf, entriesIn, ready as readyOf};
-use crate::Bench;
 use crate::Ended;
 use crate::Process;
 use crate::Queue;
@@ -101,18 +99,6 @@ fn queue_after(before: Queue, stepped: Stepped) -> Queue
     Queue {
         word,
         resets: if_so(stepped.reset, again, before.resets),
-    }
-}
-
-pub(crate) fn queue_at(state: Bench, q: u8) -> Queue
-    requires { ⌜ length (state .queues) ≡ 8 ⌝ }
-    ensures { λ r. ⌜ r ≡ queueAt state q ⌝ }
-{
-    let q = q as usize;
-    if q < 8 {
-        state.queues[q]
-    } else {
-        crate::start::fresh()
     }
 }
 

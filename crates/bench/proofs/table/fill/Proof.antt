@@ -12,38 +12,54 @@ use Rattle.bench.proofs.table.fill.Statement.{statement}
 use Rattle.bench.proofs.table.fill.Tie as tie
 
 abbrev Inv-loop : tie.InvT-loop
-Inv-loop table₀ processes size state slots k₀ table k =
+Inv-loop table₀ processes size slots state k₀ table k =
     (k ≤ 536) × (length table ≡ 536) × (take k table ≡ listOf k (tableAt processes state (slotsIn size slots)))
 
 abbrev μ-loop : tie.MeasureT-loop
-μ-loop table₀ processes size state slots k₀ table k = 536 - k
+μ-loop table₀ processes size slots state k₀ table k = 536 - k
 
 loop-holds : tie.Need-loop-holds Inv-loop μ-loop
 loop-holds c = (omega arith, c .before .before .pre .4, refl)
 
-table-at-requires : tie.Need-table-at-requires Inv-loop μ-loop
-table-at-requires c κs = (c .before .before .before .before .pre .0, c .before .before .before .before .pre .1, c .before .before .before .before .pre .2, c .before .before .before .before .pre .3)
+mul-queue : tie.Need-mul-queue Inv-loop μ-loop
+mul-queue c = search needs
+
+element-copy-out-queue : tie.Need-element-copy-out-queue Inv-loop μ-loop
+element-copy-out-queue c = omega (arith, c .loop-test .taken)
+
+in-table-requires : tie.Need-in-table-requires Inv-loop μ-loop
+in-table-requires c κs = (c .before .before .before .before .before .before .pre .0, c .before .before .before .before .before .before .pre .1, c .before .before .before .before .before .before .pre .2)
 
 mul-table : tie.Need-mul-table Inv-loop μ-loop
 mul-table c = search needs
 
 slice-write-table : tie.Need-slice-write-table Inv-loop μ-loop
-slice-write-table c = omega arith
+slice-write-table c = omega (arith, c .before .before .before .before .loop .inv .1, c .before .before .before .loop-test .taken)
 
 add-k : tie.Need-add-k Inv-loop μ-loop
-add-k c = omega arith
+add-k c = omega (arith, c .before .before .before .loop-test .taken)
 
 loop-less : tie.Need-loop-less Inv-loop μ-loop
-loop-less c = omega arith
+loop-less c = omega (arith, c .before .before .before .loop-test .taken)
 
 loop-again : tie.Need-loop-again Inv-loop μ-loop
-loop-again c = (omega arith, length-set {A = ℕ} (c .before .before .loop .table) (c .before .before .loop .k) (c .table-at .result) ∙ c .before .before .loop .inv .1, filled-next (tableAt (c .before .before .before .before .before .args .processes) (c .before .before .before .before .before .args .state) (slotsIn (c .before .before .before .before .before .args .size) (c .before .before .before .before .before .args .slots .now))) (c .before .before .loop .k) (c .before .before .loop .table) (c .table-at .result) (omega arith) (c .before .before .loop .inv .2) (c .table-at .ensures))
+loop-again c =
+    let s = c .before .before .before .before .before .before .before in
+    let l = c .before .before .before .before .loop in (
+      omega (arith, c .before .before .before .loop-test .taken),
+      length-set {A = ℕ} (l .table) (l .k) (c .in-table .result) ∙ l .inv .1,
+      filled-next (tableAt (s .args .processes) (s .args .t4) (slotsIn (s .args .size) (s .args .slots .now))) (l .k) (l .table) (c .in-table .result)
+          (omega (arith, l .inv .1, c .before .before .before .loop-test .taken)) (l .inv .2) (c .in-table .ensures),
+    )
 
 same-length : tie.Need-same-length Inv-loop μ-loop
 same-length c = c .before .loop .inv .1 ∙ sym (c .before .before .before .before .pre .4)
 
 returns : tie.Need-returns Inv-loop μ-loop
-returns c = filled (tableAt (c .before .before .before .before .args .processes) (c .before .before .before .before .args .state) (slotsIn (c .before .before .before .before .args .size) (c .before .before .before .before .args .slots .now))) (c .before .loop .k) 536 (c .before .loop .table) (c .before .loop .inv .1) (c .loop-test .left) (c .before .loop .inv .0) (c .before .loop .inv .2)
+returns c =
+    let s = c .before .before .before .before in
+    let l = c .before .loop in
+    filled (tableAt (s .args .processes) (s .args .t4) (slotsIn (s .args .size) (s .args .slots .now))) (l .k) 536 (l .table) (l .inv .1) (c .loop-test .left) (l .inv .0) (l .inv .2)
 
 pub fill-spec : {M : Type 1} → statement M
 fill-spec =
@@ -52,7 +68,9 @@ fill-spec =
     Inv-loop
     μ-loop
     loop-holds
-    table-at-requires
+    mul-queue
+    element-copy-out-queue
+    in-table-requires
     mul-table
     slice-write-table
     add-k
