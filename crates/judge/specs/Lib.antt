@@ -14,6 +14,7 @@ pub mod ListLaws
 pub mod Questions
 pub mod BoolLaws
 pub mod SearchLaws
+pub mod KindLaws
 pub mod QuestionLaws
 pub mod DequeLaws
 pub mod ReplayLaws

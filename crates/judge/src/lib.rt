@@ -3,10 +3,10 @@ ghost use mathlib.Core.Path.{_≡_};
 ghost use mathlib.Core.Bool.{cond, _&&_};
 ghost use Prim.Native.Nat.{_+_, _-_, _^_, _<_, _≤_};
 ghost use lib.Dec.{ltb};
-ghost use Rattle.log.specs.Numbers.{what as whatIs};
+ghost use Rattle.log.specs.Numbers.{what as whatIs, same};
 ghost use Rattle.log.specs.Decode.{entryAt};
 ghost use Rattle.judge.specs.Search.{first};
-ghost use Rattle.judge.specs.Contents.{applied};
+ghost use Rattle.judge.specs.Contents.{applied, bears as bearsIs};
 ghost use Rattle.judge.specs.Rules.{keeps1, momentRight, lawful as lawfulIs};
 ghost use Rattle.judge.specs.Questions.{holdsOf, dist, noteOf, findOf, nearestOf, tallyOf, emptyAtOf, causedOf, brokenOf, content, Distinct, Noted, NotedBelow};
 ghost use Rattle.judge.specs.Judge.{says, rulesOf, judgeOf};
@@ -88,14 +88,32 @@ fn what(e: Entry) -> What
     log::what_of(e.kind, e.result)
 }
 
+// Whether the call bears a moment, was a done push, gave a node at the top: by its kind and result alone, for a search asks it of every entry.
+fn bears(e: Entry) -> bool
+    ensures { λ r. ⌜ r ≡ bearsIs e ⌝ }
+{
+    (e.kind == log::BOTTOM_POP) | (e.result == log::DONE)
+}
+
+fn pushed(e: Entry) -> bool
+    ensures { λ r. ⌜ r ≡ same What.Pushed (whatIs e) ⌝ }
+{
+    (e.kind == log::PUSH) & (e.result == log::DONE)
+}
+
+fn took_top(e: Entry) -> bool
+    ensures { λ r. ⌜ r ≡ same What.TopNode (whatIs e) ⌝ }
+{
+    !(e.kind == log::PUSH) & !(e.kind == log::BOTTOM_POP) & (e.result == log::DONE)
+}
+
 // Whether what is asked holds of an entry and its note.
 fn holds(ask: Ask, note: u8, e: Entry) -> bool
     ensures { λ r. ⌜ r ≡ holdsOf ask note e ⌝ }
 {
-    let did = what(e);
-    let bears = log::bears_moment(did);
-    let pushed = log::same(What::Pushed, did);
-    let took_top = log::same(What::TopNode, did);
+    let bears = bears(e);
+    let pushed = pushed(e);
+    let took_top = took_top(e);
     let unlawful = (note == 1) | (note == 3);
     let at = e.moment as usize;
     match ask {

@@ -144,8 +144,8 @@ pub fn number_at(bytes: &[u8], at: usize) -> u16
     joined(byte_at(bytes, at), byte_at(bytes, next))
 }
 
-// The entry whose twelve bytes stand in front.
-fn first_entry(bytes: &[u8]) -> Entry
+// An entry whose twelve bytes may not all be there.
+fn cut_entry(bytes: &[u8]) -> Entry
     ensures { λ r. ⌜ r ≡ firstEntry (now (bytes .entry)) ⌝ }
 {
     Entry {
@@ -157,6 +157,25 @@ fn first_entry(bytes: &[u8]) -> Entry
         start: number_at(bytes, 6),
         end: number_at(bytes, 8),
         moment: number_at(bytes, 10),
+    }
+}
+
+// The entry whose twelve bytes stand in front. The judge reads entries more often than anything else, so one that is whole is read without tests.
+fn first_entry(bytes: &[u8]) -> Entry
+    ensures { λ r. ⌜ r ≡ firstEntry (now (bytes .entry)) ⌝ }
+{
+    if bytes.len() < 12 {
+        return cut_entry(bytes);
+    }
+    Entry {
+        process: bytes[0],
+        queue: bytes[1],
+        kind: bytes[2],
+        result: bytes[3],
+        node: joined(bytes[4], bytes[5]),
+        start: joined(bytes[6], bytes[7]),
+        end: joined(bytes[8], bytes[9]),
+        moment: joined(bytes[10], bytes[11]),
     }
 }
 

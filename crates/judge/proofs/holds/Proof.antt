@@ -3,17 +3,14 @@ use borrow.Author.Needs.{needs}
 use Rattle.judge.proofs.holds.Statement.{statement}
 use Rattle.judge.proofs.holds.Tie as tie
 
-what-requires : tie.Need-what-requires
-what-requires c κs = search needs
+bears-requires : tie.Need-bears-requires
+bears-requires c κs = search needs
 
-bears-moment-requires : tie.Need-bears-moment-requires
-bears-moment-requires c κs = search needs
+pushed-requires : tie.Need-pushed-requires
+pushed-requires c κs = search needs
 
-same-requires : tie.Need-same-requires
-same-requires c κs = search needs
-
-same-requires-2 : tie.Need-same-requires-2
-same-requires-2 c κs = search needs
+took-top-requires : tie.Need-took-top-requires
+took-top-requires c κs = search needs
 
 cast-at : tie.Need-cast-at
 cast-at c = search needs
@@ -76,40 +73,39 @@ returns-2 : tie.Need-returns-2
 returns-2 c = rw (c .before .before .before .before .before .before .before .ask2 .given .1)
 
 returns-3 : tie.Need-returns-3
-returns-3 c = rw (c .before .before .before .before .before .before .before .bears-moment .ensures, c .before .before .before .before .before .before .before .before .what .ensures, c .before .before .ask3 .given .1)
+returns-3 c = rw (c .before .before .before .before .before .before .before .bears .ensures, c .before .before .ask3 .given .1)
 
 returns-4 : tie.Need-returns-4
-returns-4 c = rw (c .before .before .before .before .before .before .before .before .before .same .ensures, c .before .before .before .before .before .before .before .before .before .before .before .what .ensures, c .before .before .before .before .before .ask4 .given .1)
+returns-4 c = rw (c .before .before .before .before .before .before .before .before .before .pushed .ensures, c .before .before .before .before .before .ask4 .given .1)
 
 returns-5 : tie.Need-returns-5
-returns-5 c = rw (c .before .before .before .before .before .before .same .ensures, c .before .before .before .before .before .before .before .before .what .ensures, c .before .before .ask5 .given .1)
+returns-5 c = rw (c .before .before .before .before .before .before .pushed .ensures, c .before .before .ask5 .given .1)
 
 returns-6 : tie.Need-returns-6
-returns-6 c = rw (c .before .before .before .before .before .before .before .bears-moment .ensures, c .before .before .before .before .before .before .before .before .what .ensures, c .before .before .ask6 .given .1)
+returns-6 c = rw (c .before .before .before .before .before .before .before .bears .ensures, c .before .before .ask6 .given .1)
 
 returns-7 : tie.Need-returns-7
-returns-7 c = rw (c .before .before .before .before .before .before .before .bears-moment .ensures, c .before .before .before .before .before .before .before .before .what .ensures, c .before .before .ask7 .given .1)
+returns-7 c = rw (c .before .before .before .before .before .before .before .bears .ensures, c .before .before .ask7 .given .1)
 
 returns-8 : tie.Need-returns-8
-returns-8 c = rw (c .before .before .before .before .before .before .before .bears-moment .ensures, c .before .before .before .before .before .before .before .before .what .ensures, c .before .before .ask8 .given .1)
+returns-8 c = rw (c .before .before .before .before .before .before .before .bears .ensures, c .before .before .ask8 .given .1)
 
 returns-9 : tie.Need-returns-9
-returns-9 c = rw (c .before .before .before .before .before .bears-moment .ensures, c .before .before .before .before .before .before .what .ensures, c .enum-told .given .1)
+returns-9 c = rw (c .before .before .before .before .before .bears .ensures, c .enum-told .given .1)
 
 returns-10 : tie.Need-returns-10
-returns-10 c = rw (c .before .before .before .before .before .before .bears-moment .ensures, c .before .before .before .before .before .before .before .what .ensures, c .before .ask9 .given .1)
+returns-10 c = rw (c .before .before .before .before .before .before .bears .ensures, c .before .ask9 .given .1)
 
 returns-11 : tie.Need-returns-11
-returns-11 c = rw (c .before .before .before .before .before .before .before .before .before .before .before .before .bears-moment .ensures, c .before .before .before .before .before .before .before .before .before .before .same2 .ensures, c .before .before .before .before .before .before .before .before .before .before .before .before .before .what .ensures, c .before .before .before .before .before .before .before .ask10 .given .1)
+returns-11 c = rw (c .before .before .before .before .before .before .before .before .before .before .before .before .bears .ensures, c .before .before .before .before .before .before .before .before .before .before .took-top .ensures, c .before .before .before .before .before .before .before .ask10 .given .1)
 
 pub holds-spec : {M : Type 1} → statement M
 holds-spec =
     tie.close
     (tie.spec
-    what-requires
-    bears-moment-requires
-    same-requires
-    same-requires-2
+    bears-requires
+    pushed-requires
+    took-top-requires
     cast-at
     enum-known-ask
     keeps-fields-requires

@@ -1,45 +1,85 @@
--- `log::first_entry` meets its contract. The fields one by one, from what `byte_at` and `number_at` ensure.
+-- `log::first_entry` meets its contract. Of a whole entry, the fields one by one.
 use borrow.Author.Needs.{needs}
 use Rattle.log.proofs.first_entry.Statement.{statement}
 use Rattle.log.proofs.first_entry.Tie as tie
 
-byte-at-requires : tie.Need-byte-at-requires
-byte-at-requires c κs = search needs
-
-byte-at-requires-2 : tie.Need-byte-at-requires-2
-byte-at-requires-2 c κs = search needs
-
-byte-at-requires-3 : tie.Need-byte-at-requires-3
-byte-at-requires-3 c κs = search needs
-
-byte-at-requires-4 : tie.Need-byte-at-requires-4
-byte-at-requires-4 c κs = search needs
-
-number-at-requires : tie.Need-number-at-requires
-number-at-requires c κs = search needs
-
-number-at-requires-2 : tie.Need-number-at-requires-2
-number-at-requires-2 c κs = search needs
-
-number-at-requires-3 : tie.Need-number-at-requires-3
-number-at-requires-3 c κs = search needs
-
-number-at-requires-4 : tie.Need-number-at-requires-4
-number-at-requires-4 c κs = search needs
+cut-entry-requires : tie.Need-cut-entry-requires
+cut-entry-requires c κs = search needs
 
 returns : tie.Need-returns
-returns c = rw (c .before .before .before .before .before .before .before .byte-at .ensures, c .before .before .before .before .before .before .byte-at2 .ensures, c .before .before .before .before .before .byte-at3 .ensures, c .before .before .before .before .byte-at4 .ensures, c .before .before .before .number-at .ensures, c .before .before .number-at2 .ensures, c .before .number-at3 .ensures, c .number-at4 .ensures)
+returns c = search needs
+
+shared-slice-read-t5 : tie.Need-shared-slice-read-t5
+shared-slice-read-t5 c = search needs
+
+shared-slice-read-t7 : tie.Need-shared-slice-read-t7
+shared-slice-read-t7 c = search needs
+
+shared-slice-read-t9 : tie.Need-shared-slice-read-t9
+shared-slice-read-t9 c = search needs
+
+shared-slice-read-t11 : tie.Need-shared-slice-read-t11
+shared-slice-read-t11 c = search needs
+
+shared-slice-read-joined : tie.Need-shared-slice-read-joined
+shared-slice-read-joined c = search needs
+
+shared-slice-read-joined-2 : tie.Need-shared-slice-read-joined-2
+shared-slice-read-joined-2 c = search needs
+
+joined-requires : tie.Need-joined-requires
+joined-requires c κs = search needs
+
+shared-slice-read-joined-3 : tie.Need-shared-slice-read-joined-3
+shared-slice-read-joined-3 c = search needs
+
+shared-slice-read-joined-4 : tie.Need-shared-slice-read-joined-4
+shared-slice-read-joined-4 c = search needs
+
+joined-requires-2 : tie.Need-joined-requires-2
+joined-requires-2 c κs = search needs
+
+shared-slice-read-joined-5 : tie.Need-shared-slice-read-joined-5
+shared-slice-read-joined-5 c = search needs
+
+shared-slice-read-joined-6 : tie.Need-shared-slice-read-joined-6
+shared-slice-read-joined-6 c = search needs
+
+joined-requires-3 : tie.Need-joined-requires-3
+joined-requires-3 c κs = search needs
+
+shared-slice-read-joined-7 : tie.Need-shared-slice-read-joined-7
+shared-slice-read-joined-7 c = search needs
+
+shared-slice-read-joined-8 : tie.Need-shared-slice-read-joined-8
+shared-slice-read-joined-8 c = search needs
+
+joined-requires-4 : tie.Need-joined-requires-4
+joined-requires-4 c κs = search needs
+
+returns-2 : tie.Need-returns-2
+returns-2 c = rw (c .joined4 .ensures, c .before .before .before .joined3 .ensures, c .before .before .before .before .before .before .joined2 .ensures, c .before .before .before .before .before .before .before .before .before .joined .ensures)
 
 pub first-entry-spec : {M : Type 1} → statement M
 first-entry-spec =
     tie.close
     (tie.spec
-    byte-at-requires
-    byte-at-requires-2
-    byte-at-requires-3
-    byte-at-requires-4
-    number-at-requires
-    number-at-requires-2
-    number-at-requires-3
-    number-at-requires-4
-    returns)
+    cut-entry-requires
+    returns
+    shared-slice-read-t5
+    shared-slice-read-t7
+    shared-slice-read-t9
+    shared-slice-read-t11
+    shared-slice-read-joined
+    shared-slice-read-joined-2
+    joined-requires
+    shared-slice-read-joined-3
+    shared-slice-read-joined-4
+    joined-requires-2
+    shared-slice-read-joined-5
+    shared-slice-read-joined-6
+    joined-requires-3
+    shared-slice-read-joined-7
+    shared-slice-read-joined-8
+    joined-requires-4
+    returns-2)

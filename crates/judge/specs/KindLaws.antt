@@ -1,0 +1,63 @@
+-- What a call did, by its kind and result alone.
+use Prim.Native.Nat.{ℕ}
+use mathlib.Core.Path.{_≡_, refl, sym, _∙_}
+use mathlib.Core.Bool.{Bool, true, false, cond, not, _&&_, _||_}
+use native.Mathlib.Omega.{arith}
+use borrow.Author.Tests.{eqb-true}
+use lib.Dec.{eqb}
+use Rattle.log.specs.Numbers.{push, bottomPop, done, bearsMoment, whatOf, same}
+use Rattle.log.specs.declared.What.{What}
+use Rattle.log.specs.declared.What.the-variants.{Pushed, Full, BottomNode, BottomNil, TopNode, TopNil}
+
+-- what is so of a kind, by whether it is a push, whether a bottom pop, and whether the result is done: it is not both
+by-kind : (P : Bool → Bool → Bool → Type 0) → ((v : Bool) → P true false v) → ((u v : Bool) → P false u v)
+    → (k r : ℕ) → P (eqb k push) (eqb k bottomPop) (eqb r done)
+by-kind P f g k r = split (eqb k push) (eqb k bottomPop) refl refl
+  where
+    split : (t u : Bool) → eqb k push ≡ t → eqb k bottomPop ≡ u → P t u (eqb r done)
+    split true true e d = absurd (let z : _≡_ {A = ℕ} push bottomPop = sym (eqb-true k push e) ∙ eqb-true k bottomPop d in omega arith)
+    split true false e d = f (eqb r done)
+    split false u e d = g u (eqb r done)
+
+-- `whatOf` of the three tests
+abbrev did : Bool → Bool → Bool → What
+did t u v = cond t (cond v Pushed Full) (cond u (cond v BottomNode BottomNil) (cond v TopNode TopNil))
+
+pub bears-is : (k r : ℕ) → (eqb k bottomPop || eqb r done) ≡ bearsMoment (whatOf k r)
+bears-is = by-kind (λ t u v. (u || v) ≡ bearsMoment (did t u v)) first rest
+  where
+    first : (v : Bool) → (false || v) ≡ bearsMoment (did true false v)
+    first true = refl
+    first false = refl
+
+    rest : (u v : Bool) → (u || v) ≡ bearsMoment (did false u v)
+    rest true true = refl
+    rest true false = refl
+    rest false true = refl
+    rest false false = refl
+
+pub pushed-is : (k r : ℕ) → (eqb k push && eqb r done) ≡ same Pushed (whatOf k r)
+pushed-is = by-kind (λ t u v. (t && v) ≡ same Pushed (did t u v)) first rest
+  where
+    first : (v : Bool) → (true && v) ≡ same Pushed (did true false v)
+    first true = refl
+    first false = refl
+
+    rest : (u v : Bool) → false ≡ same Pushed (did false u v)
+    rest true true = refl
+    rest true false = refl
+    rest false true = refl
+    rest false false = refl
+
+pub took-top-is : (k r : ℕ) → ((not (eqb k push) && not (eqb k bottomPop)) && eqb r done) ≡ same TopNode (whatOf k r)
+took-top-is = by-kind (λ t u v. ((not t && not u) && v) ≡ same TopNode (did t u v)) first rest
+  where
+    first : (v : Bool) → false ≡ same TopNode (did true false v)
+    first true = refl
+    first false = refl
+
+    rest : (u v : Bool) → (not u && v) ≡ same TopNode (did false u v)
+    rest true true = refl
+    rest true false = refl
+    rest false true = refl
+    rest false false = refl
