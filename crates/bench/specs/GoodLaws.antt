@@ -193,6 +193,7 @@ module _ (s : List ℕ) (bytes : Bytes s) (shape : Shape) (e : readingOf (fileOf
         counted = subst Counted (sym d) (start-counted (firstLengths s (shape .processes)));
         few = omega (arith, ap (λ (x : Bench). x .steps) d, ap length schedule-is, in-ranges .steps);
         all-slots = whole;
+        size = small;
         processes = few-processes;
         below = below;
       }
@@ -214,6 +215,7 @@ module _ (s : List ℕ) (bytes : Bytes s) (shape : Shape) (e : readingOf (fileOf
           counted = subst Counted (sym (becomes-played .bench)) (played-kept f aimed .1);
           few = omega (arith, ap (λ (x : Bench). x .steps) (becomes-played .bench), schedule-steps f, in-ranges .steps);
           all-slots = whole;
+          size = small;
           processes = few-processes;
         }
 

@@ -74,6 +74,7 @@ pub record ToPlay (shape : Shape) (schedule : List ℕ) (b : Bench) (flat : List
   pub counted : Counted b
   pub few : b .steps + length schedule ≤ 4144
   pub all-slots : length flat ≡ 512
+  pub size : shape .size ≤ 64
   pub processes : shape .processes ≤ 8
   pub below : (k : ℕ) → k < length schedule → getD schedule k 0 < 8
 
@@ -81,6 +82,7 @@ pub record ToClose (shape : Shape) (b : Bench) (flat : List ℕ) : Type 0 where
   pub counted : Counted b
   pub few : b .steps ≤ 4096
   pub all-slots : length flat ≡ 512
+  pub size : shape .size ≤ 64
   pub processes : shape .processes ≤ 8
 
 -- what step n of process p changes: r, before and owner are the records of the process, of its call's queue and of the queue's owner

@@ -1,22 +1,19 @@
 -- Laws of the row of slots and of entries put into a log.
 use Prim.Native.Nat.{ℕ, suc, _+_, _-_, _*_, _≤_, _<_}
 use mathlib.Core.Path.{_≡_, refl, sym, ap, _∙_, subst}
-use mathlib.Core.Bool.{Bool, true, false, _||_}
+use mathlib.Core.Bool.{true, false, _||_}
 use mathlib.Core.List.{List, [], _∷_, _++_}
 use native.Mathlib.Omega.{arith}
 use native.Mathlib.Decide.{decLt, ℕ-discrete}
-use lib.ListN.{length, getD, take, drop, set, length-set, length-drop, List·getD-append, List·getD-eq-default}
-use lib.Seq.{getD-take, getD-drop, getD-append-add, getD-set-same, getD-set-other, set-out, set-getD, ext-getD, length-take-le}
+use lib.ListN.{length, getD, take, drop, set, length-set, length-drop, List·getD-append}
+use lib.Seq.{getD-take, getD-drop, getD-append-add, getD-set-same, getD-set-other, ext-getD, length-take-le}
 use borrow.Rule.Slice.PartMut.{putMid, same-len-mid}
 use Rattle.log.specs.Encode.{entryBytes, putAt}
 use Rattle.log.specs.EncodeLaws.{listOf-length, listOf-getD}
 use Rattle.log.specs.declared.Entry.{Entry}
 use Rattle.runfile.specs.declared.Call.{Call}
 use Rattle.queue.specs.Stages.{isIdle}
-use Rattle.queue.specs.Range.{inRange}
-use Rattle.queue.specs.RangeLaws.{in-range}
-use Rattle.queue.specs.Step.{still, stored, steppedOn, StepOn}
-use Rattle.queue.specs.declared.Next.the-variants.{Refused}
+use Rattle.queue.specs.Step.{stored, steppedOn, StepOn}
 use Rattle.queue.specs.declared.Stage.{Stage}
 use Rattle.queue.specs.declared.Stepped.{Stepped}
 use Rattle.queue.specs.declared.Store.{Store}
@@ -62,9 +59,6 @@ module _ (xs ys : List ℕ) (a k : ℕ) (h : a + k ≤ length xs) (e : length ys
 -- the slots of a queue
 pub slots-get : (C : ℕ) (flat : List ℕ) (q : ℕ) → q < 8 → getD (slotsIn C flat) q [] ≡ slotsOf C flat q
 slots-get C flat q h = listOf-getD 8 (slotsOf C flat) [] q h
-
-pub slots-past : (C : ℕ) (flat : List ℕ) (q : ℕ) → 8 ≤ q → getD (slotsIn C flat) q [] ≡ []
-slots-past C flat q h = List·getD-eq-default (slotsIn C flat) [] {n = q} (omega (arith, listOf-length 8 (slotsOf C flat)))
 
 pub slots-length : (C : ℕ) (flat : List ℕ) (q : ℕ) → 64 * q + C ≤ length flat → length (slotsOf C flat q) ≡ C
 slots-length C flat q h = length-take-le C (drop (64 * q) flat) (simp length-drop (omega arith))
@@ -114,36 +108,8 @@ module _ (C q : ℕ) (flat row : List ℕ) (whole : length flat ≡ 512) (small 
       split i l (no p) =
           slots-get C changed i l ∙ other i l p ∙ sym (slots-get C flat i l) ∙ sym (getD-set-other (slotsIn C flat) q i row [] p)
 
--- a step on no slots is refused
-pub no-slots : (W C : ℕ) (w : Word) (s : Stage) → steppedOn W C w [] s ≡ still w Refused
-no-slots W C w s = by-test (inRange W C 0 w s) refl
-  where
-    by-test : (t : Bool) → inRange W C 0 w s ≡ t → steppedOn W C w [] s ≡ still w Refused
-    by-test true e = absurd (let h = in-range W C 0 w s e in omega arith)
-    by-test false e = rw e
-
--- and so is one where C is no size
-pub no-size : (W C : ℕ) (w : Word) (slots : List ℕ) (s : Stage) → 64 < C → steppedOn W C w slots s ≡ still w Refused
-no-size W C w slots s h = by-test (inRange W C (length slots) w s) refl
-  where
-    by-test : (t : Bool) → inRange W C (length slots) w s ≡ t → steppedOn W C w slots s ≡ still w Refused
-    by-test true e = absurd (let k = in-range W C (length slots) w s e in omega arith)
-    by-test false e = rw e
-
--- what the program's three ways through a step on slots give
+-- the program's step on its part of the row
 module _ (W C : ℕ) (w : Word) (flat : List ℕ) (q : ℕ) (z : Stage) (r : Stepped) where
-  pub past-queues : 8 ≤ q → r ≡ still w Refused → StepsIn W C w flat q z r flat
-  past-queues h e = record {
-    stepped = rw (slots-past C flat q h, no-slots W C w z) e;
-    slots = sym (set-out (slotsIn C flat) q _ (omega (arith, listOf-length 8 (slotsOf C flat))));
-  }
-
-  pub past-sizes : 64 < C → r ≡ still w Refused → StepsIn W C w flat q z r flat
-  past-sizes h e = record {
-    stepped = rw (no-size W C w (getD (slotsIn C flat) q []) z h) e;
-    slots = rw (no-size W C w (getD (slotsIn C flat) q []) z h) (sym (set-getD (slotsIn C flat) q []));
-  }
-
   pub on-same : (i : ℕ) (flat′ : List ℕ) → q ≡ i → StepsIn W C w flat q z r flat′ → StepsIn W C w flat i z r flat′
   on-same i flat′ e h = subst (λ (j : ℕ). StepsIn W C w flat j z r flat′) e h
 

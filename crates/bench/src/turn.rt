@@ -3,7 +3,7 @@ ghost use mathlib.Core.Path.{_≡_};
 ghost use mathlib.Core.Bool.{cond};
 ghost use Prim.Native.Nat.{_≤_, _<_};
 ghost use lib.ListN.{length, getD};
-ghost use Rattle.queue.specs.Step.{still};
+ghost use Rattle.bench.specs.Moment.{queueOf};
 ghost use Rattle.queue.specs.StepLaws.{stageAfter};
 ghost use Rattle.bench.specs.Layout.{putEntries, StepsIn, Moves};
 ghost use Rattle.runfile.specs.File.{firstCalls};
@@ -15,7 +15,6 @@ use crate::moment;
 use queue::Next;
 use queue::Stage;
 use queue::Stepped;
-use queue::Store;
 use queue::Word;
 use runfile::Call;
 use runfile::Shape;
@@ -102,28 +101,11 @@ fn queue_after(before: Queue, stepped: Stepped) -> Queue
     }
 }
 
-fn refused(word: Word) -> Stepped
-    ensures { λ r. ⌜ r ≡ still word Next.Refused ⌝ }
-{
-    Stepped {
-        word,
-        store: Store::Nothing,
-        reset: false,
-        next: Next::Refused,
-    }
-}
-
-// The step of a queue on its part of the row of slots; where there is no such queue, or C is no size, it is refused.
+// The step of a queue on its part of the row of slots.
 fn step_slots(width: u8, size: u8, word: Word, slots: &mut [u16], q: u8, stage: Stage) -> Stepped
-    requires { ⌜ length (now slots) ≡ 512 ⌝ }
+    requires { ⌜ (length (now slots) ≡ 512) × (q < 8) × (size ≤ 64) ⌝ }
     ensures { λ r. ⌜ StepsIn width size word (now (slots .entry)) q stage r (now (slots .exit)) ⌝ }
 {
-    if 8 <= q {
-        return refused(word);
-    }
-    if 64 < size {
-        return refused(word);
-    }
     let from = 64 * (q as usize);
     let to = from + size as usize;
     queue::step_on(width, size, word, &mut slots[from..to], stage)
@@ -170,7 +152,7 @@ pub(crate) fn moves(
     before: Queue,
     owner: Process,
 ) -> Moved
-    requires { ⌜ (n ≤ 8191) × (of .back ≤ 8191) × (owner .back ≤ 8191) × (before .resets ≤ 8191) × (length (now slots) ≡ 512) ⌝ }
+    requires { ⌜ (n ≤ 8191) × (of .back ≤ 8191) × (owner .back ≤ 8191) × (before .resets ≤ 8191) × (length (now slots) ≡ 512) × (queueOf p (of .call) < 8) × (shape .size ≤ 64) ⌝ }
     ensures { λ r. ⌜ Moves (shape .width) (shape .size) p n entries of before owner (now (slots .entry)) (now (log .entry)) r (now (slots .exit)) (now (log .exit)) ⌝ }
 {
     let stage = of.stage;

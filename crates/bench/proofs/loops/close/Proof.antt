@@ -59,6 +59,7 @@ play-requires c κs =
       counted = counted;
       few = omega (arith, l .inv .2 .1, c .before .before .before .before .before .loop-test .taken);
       all-slots = l .inv .1;
+      size = s .pre .size;
       processes = s .pre .processes;
       below = alone (trailingZeros 8 set) (omega (arith, lowest));
     }

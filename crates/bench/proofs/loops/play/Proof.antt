@@ -114,6 +114,8 @@ moves-requires c κs =
       omega (arith, l .inv .2 .1, few, s .pre .few, counted .back (c .before .before .before .before .queue-of .result)),
       omega (arith, l .inv .2 .1, few, s .pre .few, counted .resets (c .before .before .before .before .queue-of .result)),
       l .inv .1,
+      on-queue-of (s .args .file .now) (s .args .shape) (s .args .schedule .now) (s .pre) (l .i) few (l .after) counted _ (c .before .before .before .before .before .before .before .ready .ensures) _ refl,
+      s .pre .size,
     )
 
 mul-changed : tie.Need-mul-changed Inv-loop μ-loop
