@@ -6,6 +6,7 @@ use mathlib.Core.Bool.{Bool, true, false, cond}
 use mathlib.Core.List.{List}
 use native.Mathlib.Omega.{arith}
 use lib.Dec.{ltb}
+use lib.ListN.{length}
 use Rattle.log.specs.Encode.{Log, InRange}
 use Rattle.runfile.specs.Encode.{InRanges, Bytes}
 use Rattle.runfile.specs.File.{RunFile, Answer, refused, good, fileOf}
@@ -16,26 +17,30 @@ use Rattle.bench.specs.Run.{refusal, roomFor, finished, closed, outcome, runOf}
 use Rattle.judge.specs.Accepted.{AcceptedLog}
 use Rattle.judge.specs.AcceptedLaws.{accepted-judged}
 use Rattle.judge.specs.Judge.{says, judgeOf}
-use Rattle.bench.specs.State.{processAt}
+use Rattle.bench.specs.State.{processAt, start}
 use Rattle.queue.specs.declared.Stage.the-variants.{Idle}
 use Rattle.verdict.specs.Cases.{ever}
 use Rattle.verdict.specs.Kinds.{idle-is}
-use Rattle.verdict.specs.Sound.{processes}
-use Rattle.verdict.specs.Induction.{the-end}
+use Rattle.verdict.specs.Scripts.{sizesOf, fit, start-fresh}
+use Rattle.verdict.specs.Origins.{origins}
+use Rattle.verdict.specs.Induction.{ByScript, reached, the-end}
 use Rattle.verdict.specs.Whole.{Inv}
 use Rattle.verdict.specs.Kept.{kept}
-use Rattle.verdict.specs.Room.{Room, room-start, room-idle, room-act}
+use Rattle.verdict.specs.Room.{Room, room-fresh, room-idle, room-act}
 use Rattle.verdict.specs.Rules.{rules-kept, fields-fit}
 use Rattle.verdict.specs.InRange.{none-refused, refused-from}
 
 -- the log of the run of f
 abbrev pub logOf : RunFile → Log
-logOf f = record { P = processes f; C = f .size; entries = closed f .log }
+logOf f = record { P = length (f .shares); C = f .size; entries = closed f .log }
 
 -- it keeps the rules
 module _ (f : RunFile) (w : InRanges f) (gone : closed f .bench .gone ≡ 0) where
-  held : Inv f (closed f) × Room f (closed f)
-  held = kept f w (Room f) (room-start f w) (room-idle f) (λ s v i j p r k. room-act f w s v i j p r k) (closed f) (the-end f) gone
+  held : Inv (sizesOf f) (closed f) × Room (sizesOf f) (closed f)
+  held =
+      let z = start-fresh f w in
+      kept (sizesOf f) (fit f w) (ByScript f) (start f) z (Room (sizesOf f)) (room-fresh (sizesOf f) (fit f w) (start f) z) (room-idle (sizesOf f))
+      (λ s v i j p r k _. room-act (sizesOf f) (fit f w) s v i j p r k) (closed f) (reached f w (closed f) (the-end f)) gone
 
   short : closed f .bench .steps ≤ 32767
   short = le (steps-most f w)
@@ -47,7 +52,7 @@ module _ (f : RunFile) (w : InRanges f) (gone : closed f .bench .gone ≡ 0) whe
   all-idle p = idle-is (processAt (closed f .bench) p .stage) (all-closed-idle f p)
 
   pub log-accepted : AcceptedLog (logOf f)
-  log-accepted = rules-kept f w (closed f) (held .0) (held .1) all-idle short
+  log-accepted = rules-kept f w (closed f) (held .0) (held .1) (origins f w (closed f) (the-end f)) all-idle short
 
   pub log-in-range : InRange (logOf f)
   log-in-range = record {
@@ -56,7 +61,7 @@ module _ (f : RunFile) (w : InRanges f) (gone : closed f .bench .gone ≡ 0) whe
     C-low = w .size .0;
     C-high = w .size .1;
     few = le (entries-most f) (w .count) (calls-most f w);
-    fit = fields-fit f w (closed f) (held .0) (held .1) all-idle short;
+    fit = fields-fit f w (closed f) (held .0) (held .1) (origins f w (closed f) (the-end f)) all-idle short;
   }
     where
       le : {a b c : ℕ} → a ≤ b → c ≡ b → c ≤ 256 → a ≤ 256

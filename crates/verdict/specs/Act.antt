@@ -1,5 +1,5 @@
 -- A step of a process keeps the invariant of the whole, unless it is a gone-round take.
-use Prim.Native.Nat.{ℕ, suc, _+_, _-_, _*_, _≤_, _<_}
+use Prim.Native.Nat.{ℕ, _+_, _-_, _*_, _≤_, _<_}
 use mathlib.Core.Path.{_≡_, refl, sym, ap, _∙_, subst}
 use mathlib.Core.Bool.{Bool, true, false, cond}
 use mathlib.Core.List.{List}
@@ -7,7 +7,6 @@ use mathlib.Core.Logic.{_⊎_, inl, inr}
 use native.Mathlib.Omega.{arith}
 use native.Mathlib.Decide.{decLt}
 use lib.Dec.{leb}
-use lib.ListN.{length}
 use borrow.Author.Tests.{leb-true, lt-ltb, eq-eqb, ne-eqb}
 use Rattle.log.specs.Numbers.{noMoment}
 use Rattle.log.specs.declared.Entry.{Entry}
@@ -21,8 +20,6 @@ use Rattle.queue.specs.declared.Next.the-variants as next
 use Rattle.queue.specs.declared.Stage.{Stage}
 use Rattle.queue.specs.declared.Stage.the-variants.{Idle, P1, P2, P3, T1, T2, T3, T4, B1, B2, B3, B4, B5, B6, B7}
 use Rattle.queue.specs.declared.Stepped.{Stepped}
-use Rattle.runfile.specs.Encode.{CallInRange, InRanges}
-use Rattle.runfile.specs.File.{RunFile}
 use Rattle.runfile.specs.declared.Call.{Call}
 use Rattle.runfile.specs.declared.Call.the-variants.{Push, Pop, Take, Wrong}
 use Rattle.bench.specs.Moment.{queueOf, pushedNode, isTake, entry, nilMoment, takeMoment, goneRound}
@@ -32,7 +29,7 @@ use Rattle.bench.specs.declared.Process.{Process}
 use Rattle.judge.specs.BoolLaws.{and-1, not-so, or-l}
 use Rattle.verdict.specs.Cases.{never, ever}
 use Rattle.verdict.specs.Kinds.{isPush, isTop, isOwn, Within, within, first-quiet, own-queue, whose, Gives, gives}
-use Rattle.verdict.specs.Sound.{processes, sum-take, slotsAt, Sound, Was, goes, begins, Steps, rowAt}
+use Rattle.verdict.specs.Sound.{Sizes, Fit, processes, slotsAt, Sound, Was, goes, begins, Steps, rowAt}
 use Rattle.verdict.specs.Lists.{All, all-snoc, all-map}
 use Rattle.verdict.specs.Memory.{Memory, memoryAt, memoryAfter, asOwner, as-popped, lim, logAfter}
 use Rattle.verdict.specs.Inv.{Control, QueueOk, Change, still, void, took, Edge, old, new, Grow, same, more, Turn, view, AtTop}
@@ -94,7 +91,7 @@ renode C n p q f call nd l m z k l′ m′ s′ k′ e t = by (isOwn s′) refl
         }
 
 -- stages that are no top pop's
-as-own : (z : Stage) → isTop z ≡ false → asOwner z ≡ z
+pub as-own : (z : Stage) → isTop z ≡ false → asOwner z ≡ z
 as-own Idle e = refl
 as-own (P1 x) e = refl
 as-own (P2 x b) e = refl
@@ -136,7 +133,7 @@ back-of z y n k w e = by (decLt 9 (rowNumber z))
     by (yes lt) = inr (lt-ltb 9 (rowNumber z) lt, ap (λ (b : Bool). cond b n k) (ne-eqb (rowNumber z) 9 (omega arith)))
     by (no ge) = inl (ap (λ (b : Bool). cond b n k) (eq-eqb (rowNumber z) 9 (omega (arith, leb-true 9 (rowNumber z) (w .back e)))))
 
-module _ (f : RunFile) (w : InRanges f) (s : State) (v : Sound f s) (h : Inv f s) (p : ℕ) (r : Process) (k : Steps f s p r) where
+module _ (f : Sizes) (w : Fit f) (s : State) (v : Sound f s) (h : Inv f s) (p : ℕ) (r : Process) (k : Steps f s p r) where
   abbrev q : ℕ
   q = queueOf p (r .call)
 
@@ -164,7 +161,7 @@ module _ (f : RunFile) (w : InRanges f) (s : State) (v : Sound f s) (h : Inv f s
   -- the record that steps
   was-timed : (r : Process) → Was f s p r → Timed n p (s .log) r
   was-timed r goes = h .timed p (k .below)
-  was-timed r (begins call _ _) =
+  was-timed r (begins call _) =
       record { begun = omega arith; back-after = λ e. never (sym (first-quiet call) ∙ e); since = λ _. all-map _ _ (λ e g d. g .ended) (s .log) (h .fine) }
 
   timed : Timed n p (s .log) r
@@ -188,12 +185,6 @@ module _ (f : RunFile) (w : InRanges f) (s : State) (v : Sound f s) (h : Inv f s
       kept next.Refused e = ever e
 
   -- rule 1 of a new entry
-  pushed-in : isPush (r .stage) ≡ true → (1 ≤ pushedNode (r .call)) × (pushedNode (r .call) ≤ 65535)
-  pushed-in e =
-      let d = k .placed .call (k .busy) ∙ k .placed .suits .push e in
-      let lt : r .next - 1 < length (f .calls) = omega (arith, k .placed .begun (k .busy), k .placed .to, k .placed .stop, w .count, sum-take (suc p) (f .shares)) in
-      subst (CallInRange (processes f)) d (w .calls (r .next - 1) lt)
-
   push-owns : isPush (r .stage) ≡ true → queueOf p (r .call) ≡ p
   push-owns e = own-queue p (r .call) (k .placed .suits .own (or-l (isPush (r .stage)) (leb 8 (rowNumber (r .stage))) e))
 
@@ -211,11 +202,11 @@ module _ (f : RunFile) (w : InRanges f) (s : State) (v : Sound f s) (h : Inv f s
 
   written-after : (x : Next) → Gives (r .stage) x → All (Written (processes f)) (logAfter (s .log) (ending p r (s .bench) x))
   written-after (next.Going z) g = h .written
-  written-after next.Done g = all-snoc _ (s .log) _ (h .written) (wrote Pushed (pushedNode (r .call)) (2 * n) (push-owns g, pushed-in g .0, pushed-in g .1))
+  written-after next.Done g = all-snoc _ (s .log) _ (h .written) (wrote Pushed (pushedNode (r .call)) (2 * n) (push-owns g))
   written-after (next.Node x) g =
       all-snoc _ (s .log) _ (h .written) (node-written (processAt (s .bench) q) (queueAt (s .bench) q .word .top) x (isTake (r .call)) refl)
   written-after next.Nil g = all-snoc _ (s .log) _ (h .written) (nil-written (isTake (r .call)) refl)
-  written-after next.Full g = all-snoc _ (s .log) _ (h .written) (wrote Full (pushedNode (r .call)) noMoment (push-owns g, pushed-in g .0, pushed-in g .1, refl))
+  written-after next.Full g = all-snoc _ (s .log) _ (h .written) (wrote Full (pushedNode (r .call)) noMoment (push-owns g, refl))
   written-after next.Refused g = h .written
 
   written : All (Written (processes f)) l′
@@ -240,7 +231,7 @@ module _ (f : RunFile) (w : InRanges f) (s : State) (v : Sound f s) (h : Inv f s
 
     pub own-ok : (r : Process) → Was f s p r → isOwn (r .stage) ≡ true → OwnOk r
     own-ok r goes i = subst (λ (σ : Seat). SeatOk (f .size) n p (s .log) (memoryAt s p) σ) (own-seat r i) (h .queues p (k .below))
-    own-ok r (begins call z _) i = first call i
+    own-ok r (begins call z) i = first call i
       where
         idle-ok : QueueOk (f .size) (s .bench .steps) 0 (s .log) (memoryAt s p) Idle (processAt (s .bench) p .back)
             (view p (s .log) (memoryAt s p) Idle (processAt (s .bench) p .back))
@@ -255,7 +246,7 @@ module _ (f : RunFile) (w : InRanges f) (s : State) (v : Sound f s) (h : Inv f s
         first (Take q) i = never i
         first (Wrong n) i = never i
 
-    first-lim : (call : Call) (b : ℕ) → lim b (firstStage call) ≡ b
+    pub first-lim : (call : Call) (b : ℕ) → lim b (firstStage call) ≡ b
     first-lim (Push node) b = refl
     first-lim Pop b = refl
     first-lim (Take q) b = refl
@@ -269,7 +260,7 @@ module _ (f : RunFile) (w : InRanges f) (s : State) (v : Sound f s) (h : Inv f s
     turn-was r goes i q e a call nd l′ m′ s′ k′ t =
         subst (λ (σ : Seat). Turn (f .size) n p q a call nd (s .log) (memoryAt s q) (σ .stage) (σ .back) l′ m′ s′ k′)
         (sym (ap (λ (j : ℕ). seat s j) e ∙ own-seat r i)) t
-    turn-was r (begins c z _) i q e a call nd l′ m′ s′ k′ t =
+    turn-was r (begins c z) i q e a call nd l′ m′ s′ k′ t =
         subst (λ (x : Stage). Turn (f .size) n p q a call nd (s .log) (memoryAt s q) x (seat s q .back) l′ m′ s′ k′)
         (sym (ap (λ (j : ℕ). seat s j .stage) e ∙ ap asOwner z))
         (subst (λ (x : ℕ). Turn (f .size) n p q a call nd (s .log) (memoryAt s q) Idle x l′ m′ s′ k′) (sym (ap (λ (j : ℕ). seat s j .back) e))
@@ -282,9 +273,9 @@ module _ (f : RunFile) (w : InRanges f) (s : State) (v : Sound f s) (h : Inv f s
     back-was r goes i q e x (inr d) =
         let u : seat s q ≡ mine r = ap (λ (j : ℕ). seat s j) e ∙ own-seat r i in
         inr (ap (λ (σ : Seat). pastB2 (σ .stage)) u ∙ d .0, d .1 ∙ sym (ap (λ (σ : Seat). σ .back) u))
-    back-was r (begins c z _) i q e x (inr d) = never (sym (first-quiet c) ∙ d .0)
+    back-was r (begins c z) i q e x (inr d) = never (sym (first-quiet c) ∙ d .0)
 
-    no-top : isTop z′ ≡ false
+    pub no-top : isTop z′ ≡ false
     no-top = not-so (isTop z′) (λ e. ever (sym (k .placed .suits .top (inside .top e)) ∙ no-take))
 
     own-act : Inv f (acted p r s o)
@@ -311,15 +302,15 @@ module _ (f : RunFile) (w : InRanges f) (s : State) (v : Sound f s) (h : Inv f s
 
   -- A TOP POP
   module _ (i : isOwn (r .stage) ≡ false) where
-    top : isTop (r .stage) ≡ true
+    pub top : isTop (r .stage) ≡ true
     top = whose (r .stage) (k .busy) i
 
-    take : isTake (r .call) ≡ true
+    pub take : isTake (r .call) ≡ true
     take = k .placed .suits .top top
 
-    thief-ok : (r : Process) → Was f s p r → ThiefOk (f .size) n p (s .log) (memoryAt s (queueOf p (r .call))) (seat s (queueOf p (r .call))) r
+    pub thief-ok : (r : Process) → Was f s p r → ThiefOk (f .size) n p (s .log) (memoryAt s (queueOf p (r .call))) (seat s (queueOf p (r .call))) r
     thief-ok r goes = h .thieves p (k .below)
-    thief-ok r (begins call _ _) = first call
+    thief-ok r (begins call _) = first call
       where
         first : (call : Call) → ThiefOk (f .size) (s .bench .steps) p (s .log) (memoryAt s (queueOf p call)) (seat s (queueOf p call)) (begun (s .bench .steps) call (processAt (s .bench) p))
         first (Push node) = tt
@@ -334,7 +325,7 @@ module _ (f : RunFile) (w : InRanges f) (s : State) (v : Sound f s) (h : Inv f s
 
     seat-was : (r : Process) → Was f s p r → isOwn (r .stage) ≡ false → seat s p ≡ record { stage = Idle; back = r .back; node = 0 }
     seat-was r goes e = hidden (r .stage) (r .back) (pushedNode (r .call)) e
-    seat-was r (begins call z _) e = hidden (processAt (s .bench) p .stage) (processAt (s .bench) p .back) (pushedNode (processAt (s .bench) p .call)) (ap isOwn z)
+    seat-was r (begins call z) e = hidden (processAt (s .bench) p .stage) (processAt (s .bench) p .back) (pushedNode (processAt (s .bench) p .call)) (ap isOwn z)
 
     not-own : isOwn z′ ≡ false
     not-own = not-so (isOwn z′) (λ e. ever (sym (inside .own e) ∙ i))
@@ -345,7 +336,7 @@ module _ (f : RunFile) (w : InRanges f) (s : State) (v : Sound f s) (h : Inv f s
         not-B2 : (z : Stage) → isTop z ≡ true → atB2 z ≡ false
         not-B2 z e = ne-eqb (rowNumber z) 9 (λ d. let x = leb-true (rowNumber z) 7 (and-1 (leb 4 (rowNumber z)) (leb (rowNumber z) 7) e) in omega arith)
 
-    seats : (j : ℕ) → seat (acted p r s o) j ≡ seat s j
+    pub seats : (j : ℕ) → seat (acted p r s o) j ≡ seat s j
     seats j = at-record f w s v h p r k (λ (a : Process). seatOf a ≡ seat s j) j
         (λ e. hidden z′ (r′ .back) (pushedNode (r .call)) not-own ∙ ap (λ (b : ℕ). record { stage = Idle; back = b; node = 0 }) back-same ∙ sym
         (seat-was r (k .was) i) ∙ ap (λ (x : ℕ). seat s x) (sym e))

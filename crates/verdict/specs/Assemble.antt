@@ -1,73 +1,32 @@
 -- A step of process p on queue q: the invariant of the whole from what the step gives for p and q.
-use Prim.Native.Nat.{ℕ, zero, suc, _+_, _-_, _*_, _≤_, _<_}
+use Prim.Native.Nat.{ℕ, suc, _+_, _-_, _*_, _≤_, _<_}
 use mathlib.Core.Path.{_≡_, refl, sym, ap, _∙_, subst}
-use mathlib.Core.Bool.{Bool, true, false, cond}
+use mathlib.Core.Bool.{true}
 use mathlib.Core.List.{List, [], _∷_, _++_}
 use mathlib.Core.Logic.{_⊎_, inl, inr}
 use native.Mathlib.Omega.{arith}
-use native.Mathlib.Decide.{decLt}
-use lib.ListN.{getD, length, take, set, length-append, List·getD-eq-default}
+use lib.ListN.{getD, set}
 use Rattle.log.specs.declared.Entry.{Entry}
-use Rattle.queue.specs.Stages.{isIdle, pastB2}
+use Rattle.queue.specs.Stages.{pastB2}
 use Rattle.queue.specs.Step.{stored}
-use Rattle.queue.specs.StepLaws.{either-way, stageAfter}
-use Rattle.queue.specs.declared.Next.{Next}
 use Rattle.queue.specs.declared.Next.the-variants as next
 use Rattle.queue.specs.declared.Stepped.{Stepped}
-use Rattle.runfile.specs.Check.{sum}
-use Rattle.runfile.specs.Encode.{InRanges}
-use Rattle.runfile.specs.File.{RunFile}
-use Rattle.runfile.specs.declared.Call.the-variants.{Push, Pop}
 use Rattle.bench.specs.Moment.{queueOf, ended}
 use Rattle.bench.specs.State.{State, fresh, nobody, queueAt, processAt}
 use Rattle.bench.specs.Turn.{processAfter, queueAfter, ending, acted}
 use Rattle.bench.specs.declared.Process.{Process}
 use Rattle.bench.specs.declared.Queue.{Queue}
 use Rattle.verdict.specs.Cases.{if-set}
-use Rattle.verdict.specs.Sound.{processes, low, high, slotsAt, finished, Sound, Was, goes, begins, Steps, rowAt}
+use Rattle.verdict.specs.Sound.{Sizes, Fit, processes, slotsAt, Sound, Steps, rowAt}
 use Rattle.verdict.specs.Lists.{All, Pairs, In, all-snoc, all-map, all-in, in-all, pairs-snoc}
 use Rattle.verdict.specs.Memory.{Memory, memoryAt, memoryAfter, logAfter, log-after}
 use Rattle.verdict.specs.Inv.{still, old, Rely, Grow, same, more, NewOk, Fine, Turn, view, pending}
 use Rattle.verdict.specs.Keeps.{thief-keeps}
 use Rattle.verdict.specs.OwnerTurn.{held-keep}
 use Rattle.verdict.specs.ThiefTurn.{calm-refl}
-use Rattle.verdict.specs.Whole.{Seat, seat, nodesBy, SeatOk, ThiefOk, Timed, Order, Origin, Written, Inv, fine-keeps, in-grow, other-same, free-grow}
+use Rattle.verdict.specs.Whole.{Seat, seat, nodesBy, SeatOk, ThiefOk, Timed, Order, Written, Inv, fine-keeps, in-grow, other-same, free-grow}
 
--- no two calls of the file push one node
-pop-not : (node : ℕ) → Pop ≡ Push node → ⊥
-pop-not node e = let z : _≡_ {A = ℕ} 0 1 = cc in omega arith
-
-unique : (f : RunFile) → InRanges f → (i j node : ℕ) → getD (f .calls) i Pop ≡ Push node → getD (f .calls) j Pop ≡ Push node → i ≡ j
-unique f w i j node a b = by (decLt i j) (decLt j i)
-  where
-    inside : (k : ℕ) → getD (f .calls) k Pop ≡ Push node → Dec (k < length (f .calls)) → k < length (f .calls)
-    inside k e (yes lt) = lt
-    inside k e (no ge) = absurd (pop-not node (sym (List·getD-eq-default (f .calls) Pop {n = k} (omega arith)) ∙ e))
-
-    by : Dec (i < j) → Dec (j < i) → i ≡ j
-    by (yes lt) d = absurd (w .once i j node lt (inside j b (decLt j (length (f .calls)))) a b)
-    by (no x) (yes lt) = absurd (w .once j i node lt (inside i a (decLt i (length (f .calls)))) b a)
-    by (no x) (no y) = omega arith
-
--- the calls of two processes lie apart
-sum-up : (a b : ℕ) (l : List ℕ) → a ≤ b → sum (take a l) ≤ sum (take b l)
-sum-up zero b l h = omega arith
-sum-up (suc a) zero l h = absurd (omega arith)
-sum-up (suc a) (suc b) [] h = omega arith
-sum-up (suc a) (suc b) (x ∷ l) h = omega (arith, sum-up a b l (omega arith))
-
-one-process : (f : RunFile) (i a b : ℕ) → low f a ≤ i → i < high f a → low f b ≤ i → i < high f b → a ≡ b
-one-process f i a b la ha lb hb = by (decLt a b) (decLt b a)
-  where
-    by : Dec (a < b) → Dec (b < a) → a ≡ b
-    by (yes lt) d = absurd (let k = sum-up (suc a) b (f .shares) (omega arith) in omega arith)
-    by (no x) (yes lt) = absurd (let k = sum-up (suc b) a (f .shares) (omega arith) in omega arith)
-    by (no x) (no y) = omega arith
-
-finished-le : (r : Process) → finished r ≤ r .next
-finished-le r = either-way (λ (n : ℕ). n ≤ r .next) (isIdle (r .stage)) (λ _. omega arith) (λ _. omega arith)
-
-module _ (f : RunFile) (w : InRanges f) (s : State) (v : Sound f s) (h : Inv f s) (p : ℕ) (r : Process) (k : Steps f s p r) where
+module _ (f : Sizes) (w : Fit f) (s : State) (v : Sound f s) (h : Inv f s) (p : ℕ) (r : Process) (k : Steps f s p r) where
   abbrev q : ℕ
   q = queueOf p (r .call)
 
@@ -86,23 +45,7 @@ module _ (f : RunFile) (w : InRanges f) (s : State) (v : Sound f s) (h : Inv f s
   abbrev t : State
   t = record { bench = acted p r s o .bench; slots = acted p r s o .slots; log = l′ }
 
-  -- the calls that are finished
-  finished-old : (r : Process) → Was f s p r → isIdle (r .stage) ≡ false → finished r ≡ finished (processAt (s .bench) p)
-  finished-old r goes b = refl
-  finished-old r (begins call z _) b = rw (b, z) (omega arith)
-
-  finished-up : (x : Next) → finished r ≤ cond (isIdle (stageAfter x)) (r .next) (r .next - 1)
-  finished-up x = rw (k .busy) (either-way (λ (n : ℕ). r .next - 1 ≤ n) (isIdle (stageAfter x)) (λ _. omega arith) (λ _. omega arith))
-
-  finished-more : (x : Next) → (logAfter (s .log) (ending p r (s .bench) x) ≡ s .log) ⊎ (finished r < cond (isIdle (stageAfter x)) (r .next) (r .next - 1))
-  finished-more (next.Going z) = inl refl
-  finished-more next.Done = inr (rw (k .busy) (omega (arith, k .placed .begun (k .busy))))
-  finished-more (next.Node x) = inr (rw (k .busy) (omega (arith, k .placed .begun (k .busy))))
-  finished-more next.Nil = inr (rw (k .busy) (omega (arith, k .placed .begun (k .busy))))
-  finished-more next.Full = inr (rw (k .busy) (omega (arith, k .placed .begun (k .busy))))
-  finished-more next.Refused = inl refl
-
-  at-memory : (P : Memory → Type 0) (j : ℕ) → (j ≡ q → P m′) → ((j ≡ q → ⊥) → P (memoryAt s j)) → P (memoryAt t j)
+  pub at-memory : (P : Memory → Type 0) (j : ℕ) → (j ≡ q → P m′) → ((j ≡ q → ⊥) → P (memoryAt s j)) → P (memoryAt t j)
   at-memory P j a b =
       if-set (λ (x : Queue). P (record { word = x .word; resets = x .resets; slots = getD (set (s .slots) q (stored (slotsAt s q) (o .store))) j [] }))
       (s .bench .queues) q j (queueAfter (queueAt (s .bench) q) o) fresh
@@ -205,15 +148,6 @@ module _ (f : RunFile) (w : InRanges f) (s : State) (v : Sound f s) (h : Inv f s
     old-fine : All FineT (s .log)
     old-fine = all-map _ _ (λ e g. fine-keeps (s .bench .steps) (s .log) _ l′ _ (in-grow (turn .grow)) (kept-all (e .queue)) e g) (s .log) (h .fine)
 
-    finished-grows : (j : ℕ) → finished (processAt (s .bench) j) ≤ finished (processAt (t .bench) j)
-    finished-grows j =
-        at-record (λ (a : Process). finished (processAt (s .bench) j) ≤ finished a) j
-        (λ e. subst (λ (i : ℕ). finished (processAt (s .bench) i) ≤ finished r′) (sym e) (omega (arith, finished-old r (k .was) (k .busy), finished-up (o .next))))
-        (λ e. omega arith)
-
-    old-origin : All (Origin f t) (s .log)
-    old-origin = all-map _ _ (λ e g d. let o = g d in (o .0, o .1, omega (arith, o .2, finished-grows (e .process)), o .3)) (s .log) (h .origin)
-
     -- the new entry against an old one
     new-order : (e : Entry) → NewOk (s .bench .steps) p q (r .start) (r .call) (s .log) (seat s q .stage) (seat s q .back) (s .log ++ (e ∷ [])) (view q l′ m′ (σ′ .stage) (σ′ .back)) e
         → All (λ (a : Entry). Order a e) (s .log)
@@ -223,30 +157,17 @@ module _ (f : RunFile) (w : InRanges f) (s : State) (v : Sound f s) (h : Inv f s
         go a i =
             let fa = in-all _ (s .log) (h .fine) a i in
             let sa = in-all _ (s .log) since a i in
-            let oa = in-all _ (s .log) (h .origin) a i in
             record {
               ends = omega (arith, fa .ended, x .to-end);
               after = λ d. omega (arith, sa (d ∙ x .by-process), x .from-start);
               differ = λ b c d. in-all _ (s .log) (x .fresh c) a i b d;
-              nodes = λ b c d.
-                  let o = oa b in
-                  let d₁ = k .placed .call (k .busy) ∙ x .node c in
-                  let d₂ = unique f w (o .0) (r .next - 1) (e .node) (o .3 ∙ ap Push d) d₁ in
-                  let ea = v .each (a .process) (in-all _ (s .log) (h .written) a i .process) in
-                  let lo = finished-le (processAt (s .bench) (a .process)) in
-                  let fr : finished r ≡ r .next - 1 = rw (k .busy) refl in
-                  let d₃ : a .process ≡ p = one-process f (r .next - 1) (a .process) p (omega (arith, o .1)) (omega (arith, o .2, ea .stop, ea .to))
-                  (omega (arith, k .placed .from))
-                  (omega (arith, k .placed .begun (k .busy), k .placed .to, k .placed .stop)) in
-                  let d₄ : finished (processAt (s .bench) (a .process)) ≡ finished (processAt (s .bench) p) = ap (λ (j : ℕ). finished (processAt (s .bench) j)) d₃ in
-                  omega (arith, o .2, finished-old r (k .was) (k .busy));
             }
 
     abbrev Log : List Entry → Type 0
-    Log k = (All FineT k) × (Pairs Order k) × (All (Origin f t) k)
+    Log k = (All FineT k) × (Pairs Order k)
 
     new-log : (l″ : List Entry) → l″ ≡ l′ → Grow (s .bench .steps) p q (r .start) (r .call) (s .log) (seat s q .stage) (seat s q .back) (view q l′ m′ (σ′ .stage) (σ′ .back)) l″ → Log l″
-    new-log l″ el same = (old-fine, h .order, old-origin)
+    new-log l″ el same = (old-fine, h .order)
     new-log l″ el (more e x) = (
       all-snoc FineT (s .log) e old-fine
           (at-queue (λ m σ. Fine (s .bench .steps + 1) l′ (nodesBy (e .queue) l′ m σ) e) (e .queue)
@@ -254,19 +175,7 @@ module _ (f : RunFile) (w : InRanges f) (s : State) (v : Sound f s) (h : Inv f s
           (subst (λ (k : List Entry). Fine (s .bench .steps + 1) k (nodesBy q l′ m′ σ′) e) el (x .fine)))
           (λ d. absurd (d (x .on-queue)))),
       pairs-snoc Order (s .log) e (h .order) (new-order e x),
-      all-snoc (Origin f t) (s .log) e old-origin
-          (λ c. (
-            r .next - 1,
-            subst (λ (j : ℕ). low f j ≤ r .next - 1) (sym (x .by-process)) (subst (λ (b : Bool). low f p ≤ cond b (r .next) (r .next - 1)) (k .busy)
-                (k .placed .from)),
-            at-record (λ (a : Process). r .next - 1 < finished a) (e .process) (λ d. grew (finished-more (o .next))) (λ d. absurd (d (x .by-process))),
-            k .placed .call (k .busy) ∙ x .node c,
-          )),
     )
-      where
-        grew : (logAfter (s .log) (ending p r (s .bench) (o .next)) ≡ s .log) ⊎ (finished r < finished r′) → r .next - 1 < finished r′
-        grew (inl u) = absurd (let z = length-append (s .log) (e ∷ []) in let y = ap length el in let x = ap length u in omega arith)
-        grew (inr u) = let fr : finished r ≡ r .next - 1 = rw (k .busy) refl in omega arith
 
     apart : (a b : ℕ) → a < processes f → b < processes f → (a ≡ b → ⊥) → pastB2 (seat t a .stage) ≡ true → pastB2 (seat t b .stage) ≡ true
         → seat t a .back ≡ seat t b .back → ⊥
@@ -300,7 +209,6 @@ module _ (f : RunFile) (w : InRanges f) (s : State) (v : Sound f s) (h : Inv f s
           apart = apart;
           fine = lg .0;
           order = lg .1;
-          origin = lg .2;
           written = written;
         } in
         subst (λ (l : List Entry). Inv f (record { bench = acted p r s o .bench; slots = acted p r s o .slots; log = l }))

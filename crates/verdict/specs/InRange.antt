@@ -26,8 +26,9 @@ use Rattle.bench.specs.State.{State, queueAt, processAt}
 use Rattle.bench.specs.Turn.{ready, stepping}
 use Rattle.bench.specs.declared.Process.{Process}
 use Rattle.verdict.specs.Cases.{ever}
-use Rattle.verdict.specs.Sound.{processes, slotsAt, stepping-is, ready-case}
-use Rattle.verdict.specs.Induction.{StateOf, sound, the-end}
+use Rattle.verdict.specs.Sound.{slotsAt, stepping-is}
+use Rattle.verdict.specs.Scripts.{sizesOf, fit, ready-case}
+use Rattle.verdict.specs.Induction.{StateOf, sound, each-scripted, the-end}
 
 -- in no state of a run a step was refused
 pub none-refused : (f : RunFile) → InRanges f → (s : State) → StateOf f s → s .bench .refused ≡ false
@@ -38,15 +39,15 @@ pub record Touches (f : RunFile) (s : State) (p : ℕ) (r : Process) : Type 0 wh
   pub loads : LoadsBelow (f .size) (loadedSlot (r .stage))
   pub stores : isIdle (r .stage) ≡ false → StoresBelow (f .size) (stepping (f .width) (f .size) p r s .store)
 
-pub below-C : (f : RunFile) → InRanges f → (s : State) → StateOf f s → (p : ℕ) → p < processes f
+pub below-C : (f : RunFile) → InRanges f → (s : State) → StateOf f s → (p : ℕ) → p < length (f .shares)
     → Touches f s p (ready (f .calls) (s .bench .steps) (processAt (s .bench) p))
 below-C f h s o p lt =
     let v = sound f h s o in
-    ready-case f h (Touches f s p) s v p lt
+    ready-case f h (Touches f s p) s v (each-scripted f h s o) p lt
     (λ e. record { loads = loads-below (f .width) (f .size) (processAt (s .bench) p .stage) (v .each p lt .stage); stores = λ d. ever (sym e ∙ d) })
-    (λ r k. record {
+    (λ r k c. record {
       loads = loads-below (f .width) (f .size) (r .stage) (k .placed .stage);
-      stores = λ _. subst (λ (x : Stepped). StoresBelow (f .size) (x .store)) (sym (stepping-is f h s v p r k))
+      stores = λ _. subst (λ (x : Stepped). StoresBelow (f .size) (x .store)) (sym (stepping-is (sizesOf f) (fit f h) s v p r k))
           (stores-below (f .width) (f .size) (queueAt (s .bench) (queueOf p (r .call)) .word) (loaded (slotsAt s (queueOf p (r .call))) (loadedSlot (r .stage)))
           (r .stage) (k .placed .stage));
     })

@@ -5,7 +5,7 @@ use mathlib.Core.Bool.{Bool, true, false, cond}
 use mathlib.Core.List.{List, [], _∷_, _++_}
 use native.Mathlib.Decide.{decLt}
 use native.Mathlib.Omega.{arith}
-use borrow.Author.Tests.{ltb-true, ltb-false}
+use borrow.Author.Tests.{ltb-true}
 use lib.Dec.{ltb}
 use lib.ListN.{length, getD, take}
 use lib.Seq.{take-suc, take-all}
@@ -17,10 +17,12 @@ use Rattle.runfile.specs.declared.Call.{Call}
 use Rattle.bench.specs.ClosingLaws.{lowest-busy}
 use Rattle.bench.specs.Run.{play, lowest, close, closingSteps, closed}
 use Rattle.bench.specs.State.{State, processAt, start}
-use Rattle.bench.specs.Turn.{act, acted, idle, turn}
+use Rattle.bench.specs.Turn.{act, turn}
 use Rattle.bench.specs.declared.Process.{Process}
 use Rattle.verdict.specs.Cases.{ever}
-use Rattle.verdict.specs.Sound.{processes, Sound, Steps, rowAt, act-is, turn-case, sound-act, sound-idle, sound-start, goes-on}
+use Rattle.verdict.specs.Sound.{Sound, Steps, act-is, goes-on}
+use Rattle.verdict.specs.Reached.{Reached, begins, idles, acts, sound as any-sound}
+use Rattle.verdict.specs.Scripts.{sizesOf, fit, Scripted, Each, turn-case, each-act, each-start, start-fresh}
 
 -- the state after the first k steps of the schedule, and after the first k of the closing
 abbrev pub scheduled : RunFile → ℕ → State
@@ -77,57 +79,64 @@ closing-0 f = ap (λ (l : List ℕ). play (f .width) (f .size) (f .calls) l (sta
 pub closing-next : (f : RunFile) (k : ℕ) → closing f (suc k) ≡ closes (f .width) (f .size) (closing f k)
 closing-next f k = close-last (f .width) (f .size) k (play (f .width) (f .size) (f .calls) (f .schedule) (start f))
 
+-- what is known of a record with which a process steps in the run
+abbrev pub ByScript : RunFile → State → ℕ → Process → Type 0
+ByScript f s p r = Scripted f p r × StateOf f s
+
+-- each state of the run is reached by idle steps and steps in calls of the scripts
 module _ (f : RunFile) (h : InRanges f) where
+  abbrev Got : State → Type 0
+  Got s = Reached (sizesOf f) (ByScript f) (start f) s × Each f s
+
+  sound-of : (s : State) → Got s → Sound (sizesOf f) s
+  sound-of s g = any-sound (sizesOf f) (fit f h) (ByScript f) (start f) (start-fresh f h) s (g .0)
+
+  got-act : (s : State) → StateOf f s → Got s → (p : ℕ) (r : Process) → Steps (sizesOf f) s p r → Scripted f p r → Got (act (f .width) (f .size) p r s)
+  got-act s i g p r k c =
+      let v = sound-of s g in
+      subst Got (sym (act-is (sizesOf f) (fit f h) s v p r k)) (acts s (g .0) p r k (c, i), each-act f h s v (g .1) p r k c)
+
   -- a step of the closing is one of a half-done process in its call, or there is none
-  pub close-case : (Q : State → Type 0) (s : State) → Sound f s → (8 ≤ lowest (s .bench .processes) → Q s)
-      → ((p : ℕ) → Steps f s p (processAt (s .bench) p) → Q (act (f .width) (f .size) p (processAt (s .bench) p) s)) → Q (closes (f .width) (f .size) s)
-  close-case Q s v i a =
-      either-way Q (ltb p 8) (λ e. a p (steps (ltb-true p 8 e) (decLt p (processes f)))) (λ e. i (ltb-false p 8 e))
+  close-case : (s : State) → StateOf f s → Got s → Got (closes (f .width) (f .size) s)
+  close-case s i g =
+      either-way Got (ltb p 8) (λ e. steps (ltb-true p 8 e) (decLt p (length (f .shares)))) (λ e. g)
     where
       p : ℕ
       p = lowest (s .bench .processes)
 
       busy : lowest (s .bench .processes) < 8 → isIdle (processAt (s .bench) (lowest (s .bench .processes)) .stage) ≡ false
-      busy lt = lowest-busy (s .bench .processes) (omega (arith, v .records))
+      busy lt = lowest-busy (s .bench .processes) (omega (arith, sound-of s g .records))
 
-      steps : lowest (s .bench .processes) < 8 → Dec (lowest (s .bench .processes) < processes f)
-          → Steps f s (lowest (s .bench .processes)) (processAt (s .bench) (lowest (s .bench .processes)))
-      steps lt (yes l) = goes-on f h s v (lowest (s .bench .processes)) l (busy lt)
-      steps lt (no g) = ever (sym (ap isIdle (v .absent (lowest (s .bench .processes)) (omega arith))) ∙ busy lt)
+      steps : lowest (s .bench .processes) < 8 → Dec (lowest (s .bench .processes) < length (f .shares))
+          → Got (act (f .width) (f .size) (lowest (s .bench .processes)) (processAt (s .bench) (lowest (s .bench .processes))) s)
+      steps lt (yes l) = got-act s i g _ _ (goes-on (sizesOf f) (fit f h) s (sound-of s g) (lowest (s .bench .processes)) l (busy lt)) (g .1 (lowest (s .bench .processes)) l)
+      steps lt (no ge) = ever (sym (ap isIdle (sound-of s g .absent (lowest (s .bench .processes)) (omega arith))) ∙ busy lt)
 
-  module _ (J : State → Type 0)
-      (j-start : J (start f))
-      (j-idle : (s : State) → StateOf f s → Sound f s → J s → J (idle s))
-      (j-act : (s : State) → StateOf f s → Sound f s → J s → (p : ℕ) (r : Process) → Steps f s p r → J (acted p r s (rowAt f s p r))) where
-    abbrev Both : State → Type 0
-    Both s = Sound f s × J s
+  played : (k : ℕ) → k ≤ length (f .schedule) → Got (scheduled f k)
+  played zero le = subst Got (sym (scheduled-0 f)) (begins, each-start f h)
+  played (suc k) le =
+      let g : Got (scheduled f k) = played k (omega arith) in
+      subst Got (sym (scheduled-next f k (omega arith)))
+      (turn-case f h Got (scheduled f k) (sound-of (scheduled f k) g) (g .1) (getD (f .schedule) k 0) (h .schedule k (omega arith))
+      (idles (scheduled f k) (g .0), g .1)
+      (got-act (scheduled f k) (at-schedule k (omega arith)) g (getD (f .schedule) k 0)))
 
-    both-act : (s : State) → StateOf f s → Both s → (p : ℕ) (r : Process) → Steps f s p r → Both (act (f .width) (f .size) p r s)
-    both-act s o b p r k = subst Both (sym (act-is f h s (b .0) p r k)) (sound-act f h s (b .0) p r k, j-act s o (b .0) (b .1) p r k)
+  closed-too : (k : ℕ) → k ≤ closingSteps → Got (closing f k)
+  closed-too zero le = subst Got (sym (closing-0 f)) (played (length (f .schedule)) (omega arith))
+  closed-too (suc k) le = subst Got (sym (closing-next f k)) (close-case (closing f k) (at-closing k (omega arith)) (closed-too k (omega arith)))
 
-    played : (k : ℕ) → k ≤ length (f .schedule) → Both (scheduled f k)
-    played zero le = subst Both (sym (scheduled-0 f)) (sound-start f h, j-start)
-    played (suc k) le =
-        let b : Both (scheduled f k) = played k (omega arith) in
-        let o : StateOf f (scheduled f k) = at-schedule k (omega arith) in
-        subst Both (sym (scheduled-next f k (omega arith)))
-        (turn-case f h Both (scheduled f k) (b .0) (getD (f .schedule) k 0) (h .schedule k (omega arith))
-        (sound-idle f h (scheduled f k) (b .0), j-idle (scheduled f k) o (b .0) (b .1))
-        (both-act (scheduled f k) o b (getD (f .schedule) k 0)))
+  got : (s : State) → StateOf f s → Got s
+  got s o = by s o
+    where
+      by : (s : State) → StateOf f s → Got s
+      by s (at-schedule k le) = played k le
+      by s (at-closing k le) = closed-too k le
 
-    closed-too : (k : ℕ) → k ≤ closingSteps → Both (closing f k)
-    closed-too zero le = subst Both (sym (closing-0 f)) (played (length (f .schedule)) (omega arith))
-    closed-too (suc k) le =
-        let b : Both (closing f k) = closed-too k (omega arith) in
-        subst Both (sym (closing-next f k)) (close-case Both (closing f k) (b .0) (λ _. b) (λ p. both-act (closing f k) (at-closing k (omega arith)) b p
-        (processAt (closing f k .bench) p)))
+  pub reached : (s : State) → StateOf f s → Reached (sizesOf f) (ByScript f) (start f) s
+  reached s o = got s o .0
 
-    pub everywhere : (s : State) → StateOf f s → Sound f s × J s
-    everywhere s o = by s o
-      where
-        by : (s : State) → StateOf f s → Sound f s × J s
-        by s (at-schedule k le) = played k le
-        by s (at-closing k le) = closed-too k le
+  pub each-scripted : (s : State) → StateOf f s → Each f s
+  each-scripted s o = got s o .1
 
 -- the end of the run is a state of it
 pub the-end : (f : RunFile) → StateOf f (closed f)
@@ -135,5 +144,5 @@ unfolding closed
 the-end f = at-closing closingSteps (omega arith)
 
 -- in every state of a run of a good file all is in range, whatever its takes are
-pub sound : (f : RunFile) → InRanges f → (s : State) → StateOf f s → Sound f s
-sound f h s o = everywhere f h (λ s. Unit {0}) tt (λ s o v i. tt) (λ s o v i p r k. tt) s o .0
+pub sound : (f : RunFile) → InRanges f → (s : State) → StateOf f s → Sound (sizesOf f) s
+sound f h s o = any-sound (sizesOf f) (fit f h) (ByScript f) (start f) (start-fresh f h) s (reached f h s o)

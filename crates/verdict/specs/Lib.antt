@@ -2,8 +2,11 @@ pub mod Cases
 pub mod Lists
 pub mod Kinds
 pub mod Sound
+pub mod Reached
+pub mod Scripts
 pub mod Induction
 pub mod InRange
+pub mod Origins
 pub mod Tags
 pub mod Content
 pub mod Memory

@@ -36,7 +36,8 @@ use Rattle.bench.specs.declared.Queue.{Queue}
 use Rattle.verdict.specs.Cases.{ever}
 use Rattle.verdict.specs.Kinds.{idle-is}
 use Rattle.verdict.specs.Replay.{wordAt, slotsAt, Lent, answerTo, Note, firstOf, queueFor, lends, noted, Sheet, noteAt, whoNext, nextLent, sheetAfter, lentWith, tableOf}
-use Rattle.verdict.specs.Sound.{processes, finished, sum-take, Placed, Sound, Was, goes, begins, Steps, rowAt, act-is, goes-on, ready-case, turn-case, sound-act, sound-idle}
+use Rattle.verdict.specs.Sound.{Sound, Was, goes, begins, Steps, rowAt, act-is, goes-on, sound-act, sound-idle}
+use Rattle.verdict.specs.Scripts.{sizesOf, fit, finished, sum-take, Scripted, Each, ready-case, turn-case, each-act}
 
 -- a list mapped after a store
 map-set : {A B : Type 0} (g : A → B) (l : List A) (i : ℕ) (x : A) → map g (set l i x) ≡ set (map g l) i (g x)
@@ -79,7 +80,7 @@ pub record Step (f : RunFile) (ps : List ℕ) (s : State) (l : Lent) (s′ : Sta
 abbrev noteAfter : Stage → List Call → Note
 noteAfter z calls = record { stage = z; calls = cond (isIdle z) (drop 1 calls) calls }
 
-module _ (f : RunFile) (h : InRanges f) (s : State) (v : Sound f s) where
+module _ (f : RunFile) (h : InRanges f) (s : State) (v : Sound (sizesOf f) s) (c : Each f s) where
   abbrev notes : List Note
   notes = map (noteOf f) (s .bench .processes)
 
@@ -93,7 +94,7 @@ module _ (f : RunFile) (h : InRanges f) (s : State) (v : Sound f s) where
   abbrev row : ℕ → Stage → Stepped
   row q z = rowOf (f .width) (f .size) (queueAt (s .bench) q .word) (loaded (getD (s .slots) q []) (loadedSlot z)) z
 
-  desk-row : (q : ℕ) (z : Stage) → q < processes f → StageIn (f .width) (f .size) z
+  desk-row : (q : ℕ) (z : Stage) → q < length (f .shares) → StageIn (f .width) (f .size) z
       → steppedOn (f .width) (f .size) (wordAt (tableOf s) q) (slotsAt (tableOf s) q) z ≡ row q z
   desk-row q z lt i =
       let w : Word = queueAt (s .bench) q .word in
@@ -107,7 +108,7 @@ module _ (f : RunFile) (h : InRanges f) (s : State) (v : Sound f s) where
       ∙ ap (λ (t : Bool). cond t (row q z) (still w Refused)) e
 
   -- process p, whose turn it is, lends the stage z on queue q
-  module _ (ps : List ℕ) (p q : ℕ) (z : Stage) (who : whoNext (sheetOf f ps s) ≡ p) (small : p < 8) (lt : q < processes f)
+  module _ (ps : List ℕ) (p q : ℕ) (z : Stage) (who : whoNext (sheetOf f ps s) ≡ p) (small : p < 8) (lt : q < length (f .shares))
       (i : StageIn (f .width) (f .size) z) where
     abbrev this : Lent
     this = record { process = p; queue = q; stage = z }
@@ -148,7 +149,7 @@ module _ (f : RunFile) (h : InRanges f) (s : State) (v : Sound f s) where
     }
 
   -- of a process in a call, that call is the first that has not returned
-  unreturned : (p : ℕ) (r : Process) → Placed f p r → isIdle (r .stage) ≡ false
+  unreturned : (p : ℕ) (r : Process) → Scripted f p r → isIdle (r .stage) ≡ false
       → slice (r .next - 1) (r .stop) (f .calls) ≡ r .call ∷ slice (r .next) (r .stop) (f .calls)
   unreturned p r k b =
       let n : 1 ≤ r .next = k .begun b in
@@ -161,13 +162,13 @@ module _ (f : RunFile) (h : InRanges f) (s : State) (v : Sound f s) where
     calls : noteOf f (processAt (s .bench) p) .calls ≡ r .call ∷ slice (r .next) (r .stop) (f .calls)
     stage : cond (isIdle (processAt (s .bench) p .stage)) (firstStage (r .call)) (processAt (s .bench) p .stage) ≡ r .stage
 
-  before : (p : ℕ) (r : Process) → Was f s p r → Placed f p r → isIdle (r .stage) ≡ false → Before p r
+  before : (p : ℕ) (r : Process) → Was (sizesOf f) s p r → Scripted f p r → isIdle (r .stage) ≡ false → Before p r
   before p _ goes k b =
       let r : Process = processAt (s .bench) p in record {
         calls = ap (λ (t : Bool). slice (cond t (r .next) (r .next - 1)) (r .stop) (f .calls)) b ∙ unreturned p r k b;
         stage = ap (λ (t : Bool). cond t (firstStage (r .call)) (r .stage)) b;
       }
-  before p _ (begins call z lt) k b =
+  before p _ (begins call z) k b =
       let r : Process = processAt (s .bench) p in
       let e : r .next + 1 - 1 ≡ r .next = omega arith in record {
         calls = ap (λ (x : Stage). slice (cond (isIdle x) (r .next) (r .next - 1)) (r .stop) (f .calls)) z
@@ -176,12 +177,12 @@ module _ (f : RunFile) (h : InRanges f) (s : State) (v : Sound f s) where
       }
 
   -- a step in a call
-  module _ (ps : List ℕ) (p : ℕ) (r : Process) (who : whoNext (sheetOf f ps s) ≡ p) (k : Steps f s p r) where
+  module _ (ps : List ℕ) (p : ℕ) (r : Process) (who : whoNext (sheetOf f ps s) ≡ p) (k : Steps (sizesOf f) s p r) (cr : Scripted f p r) where
     abbrev q : ℕ
     q = queueOf p (r .call)
 
     abbrev o : Stepped
-    o = rowAt f s p r
+    o = rowAt (sizesOf f) s p r
 
     abbrev r′ : Process
     r′ = processAfter (s .bench .steps) (queueAt (s .bench) q .resets) r (o .next)
@@ -190,7 +191,7 @@ module _ (f : RunFile) (h : InRanges f) (s : State) (v : Sound f s) where
     then = slice (r .next) (r .stop) (f .calls)
 
     noted-before : Before p r
-    noted-before = before p r (k .was) (k .placed) (k .busy)
+    noted-before = before p r (k .was) cr (k .busy)
 
     busy-lends : lends p (noteOf f (processAt (s .bench) p)) ≡ record { process = p; queue = q; stage = r .stage }
     busy-lends =
@@ -202,7 +203,7 @@ module _ (f : RunFile) (h : InRanges f) (s : State) (v : Sound f s) where
 
     left-after : (t : Bool) → cond t then (r .call ∷ then) ≡ slice (cond t (r .next) (r .next - 1)) (r .stop) (f .calls)
     left-after true = refl
-    left-after false = sym (unreturned p r (k .placed) (k .busy))
+    left-after false = sym (unreturned p r cr (k .busy))
 
     busy-note : noteAfter (stageAfter (o .next)) (noteOf f (processAt (s .bench) p) .calls) ≡ noteOf f r′
     busy-note =
@@ -211,14 +212,14 @@ module _ (f : RunFile) (h : InRanges f) (s : State) (v : Sound f s) where
 
     pub act-step : Step f ps s (lentWith p r) (act (f .width) (f .size) p r s)
     act-step =
-        subst (Step f ps s (lentWith p r)) (sym (act-is f h s v p r k))
+        subst (Step f ps s (lentWith p r)) (sym (act-is (sizesOf f) (fit f h) s v p r k))
         (subst (λ (t : Bool). Step f ps s (record { process = p; queue = cond t p q; stage = r .stage }) (acted p r s o)) (sym (k .busy))
         (one-step ps p q (r .stage) who (omega (arith, k .below, h .processes)) (k .placed .queue) (k .placed .stage) (acted p r s o) busy-lends
         (map-set (λ (m : Queue). m .word) (s .bench .queues) q (queueAfter (queueAt (s .bench) q) o)) refl
         (map-set (noteOf f) (s .bench .processes) p r′ ∙ ap (set notes p) (sym busy-note)) refl))
 
   -- an idle step: the process has no call left
-  module _ (ps : List ℕ) (p : ℕ) (who : whoNext (sheetOf f ps s) ≡ p) (lt : p < processes f) (e : isIdle (processAt (s .bench) p .stage) ≡ true)
+  module _ (ps : List ℕ) (p : ℕ) (who : whoNext (sheetOf f ps s) ≡ p) (lt : p < length (f .shares)) (e : isIdle (processAt (s .bench) p .stage) ≡ true)
       (same : turning (f .calls) p s ≡ processAt (s .bench) p) where
     abbrev r : Process
     r = processAt (s .bench) p
@@ -235,7 +236,7 @@ module _ (f : RunFile) (h : InRanges f) (s : State) (v : Sound f s) where
 
     none-left : noteOf f r .calls ≡ []
     none-left =
-        let n : r .next ≡ r .stop = omega (arith, all-begun (ltb (r .next) (r .stop)) refl, v .each p lt .to) in
+        let n : r .next ≡ r .stop = omega (arith, all-begun (ltb (r .next) (r .stop)) refl, c p lt .to) in
         ap (λ (t : Bool). slice (cond t (r .next) (r .next - 1)) (r .stop) (f .calls)) e
         ∙ ap (λ (j : ℕ). slice j (r .stop) (f .calls)) n ∙ slice-empty (r .stop) (f .calls)
 
@@ -263,27 +264,31 @@ module _ (f : RunFile) (h : InRanges f) (s : State) (v : Sound f s) where
         (sym (ap (set notes p) (idle-note ∙ sym (note-at p)) ∙ set-getD notes p (record { stage = Idle; calls = [] }))) refl)
 
   -- a step of the schedule
-  pub turn-step : (ps : List ℕ) (p : ℕ) → p < processes f
+  pub turn-step : (ps : List ℕ) (p : ℕ) → p < length (f .shares)
       → Step f (p ∷ ps) s (lentWith p (turning (f .calls) p s)) (turn (f .width) (f .size) (f .calls) p s)
   unfolding turn turnAs
   turn-step ps p lt =
-      ready-case f h (λ (r : Process). turning (f .calls) p s ≡ r → Made r (isIdle (r .stage))) s v p lt
+      ready-case f h (λ (r : Process). turning (f .calls) p s ≡ r → Made r (isIdle (r .stage))) s v c p lt
       (λ e d. subst (Made (processAt (s .bench) p)) (sym e) (idle-step (p ∷ ps) p refl lt e d))
-      (λ r k d. subst (Made r) (sym (k .busy)) (act-step (p ∷ ps) p r refl k))
+      (λ r k cr d. subst (Made r) (sym (k .busy)) (act-step (p ∷ ps) p r refl k cr))
       refl
     where
       Made : Process → Bool → Type 0
       Made r t = Step f (p ∷ ps) s (lentWith p r) (cond t (idle s) (act (f .width) (f .size) p r s))
 
-  pub after-act : (p : ℕ) (r : Process) → Steps f s p r → Sound f (act (f .width) (f .size) p r s)
-  after-act p r k = subst (Sound f) (sym (act-is f h s v p r k)) (sound-act f h s v p r k)
+  abbrev pub Good : State → Type 0
+  Good x = Sound (sizesOf f) x × Each f x
 
-  pub after-turn : (p : ℕ) → p < processes f → Sound f (turn (f .width) (f .size) (f .calls) p s)
-  after-turn p lt = turn-case f h (Sound f) s v p lt (sound-idle f h s v) (after-act p)
+  pub after-act : (p : ℕ) (r : Process) → Steps (sizesOf f) s p r → Scripted f p r → Good (act (f .width) (f .size) p r s)
+  after-act p r k cr = subst Good (sym (act-is (sizesOf f) (fit f h) s v p r k)) (sound-act (sizesOf f) (fit f h) s v p r k, each-act f h s v c p r k cr)
+
+  pub after-turn : (p : ℕ) → p < length (f .shares) → Good (turn (f .width) (f .size) (f .calls) p s)
+  after-turn p lt = turn-case f h Good s v c p lt (sound-idle (sizesOf f) (fit f h) s v, c) (after-act p)
 
   -- who steps in the closing
-  pub closer : lowest (s .bench .processes) < 8 → Steps f s (lowest (s .bench .processes)) (processAt (s .bench) (lowest (s .bench .processes)))
-  closer small = split (decLt p (processes f))
+  pub closer : lowest (s .bench .processes) < 8
+      → Steps (sizesOf f) s (lowest (s .bench .processes)) (processAt (s .bench) (lowest (s .bench .processes))) × Scripted f (lowest (s .bench .processes)) (processAt (s .bench) (lowest (s .bench .processes)))
+  closer small = split (decLt p (length (f .shares)))
     where
       p : ℕ
       p = lowest (s .bench .processes)
@@ -291,6 +296,7 @@ module _ (f : RunFile) (h : InRanges f) (s : State) (v : Sound f s) where
       busy : isIdle (processAt (s .bench) (lowest (s .bench .processes)) .stage) ≡ false
       busy = lowest-busy (s .bench .processes) (omega (arith, v .records))
 
-      split : Dec (p < processes f) → Steps f s (lowest (s .bench .processes)) (processAt (s .bench) (lowest (s .bench .processes)))
-      split (yes lt) = goes-on f h s v p lt busy
+      split : Dec (p < length (f .shares))
+          → Steps (sizesOf f) s (lowest (s .bench .processes)) (processAt (s .bench) (lowest (s .bench .processes))) × Scripted f (lowest (s .bench .processes)) (processAt (s .bench) (lowest (s .bench .processes)))
+      split (yes lt) = (goes-on (sizesOf f) (fit f h) s v p lt busy, c p lt)
       split (no ge) = ever (sym (ap isIdle (v .absent p (omega arith))) ∙ busy)

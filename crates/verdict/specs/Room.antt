@@ -6,7 +6,7 @@ use mathlib.Core.List.{List, [], _∷_, _++_}
 use native.Mathlib.Omega.{arith}
 use native.Mathlib.Numerals.{add-one}
 use lib.Dec.{ltb, eqb}
-use lib.ListN.{length, length-append, getD-replicate, List·getD-append}
+use lib.ListN.{length, getD, length-append, getD-replicate, List·getD-append}
 use borrow.Author.Tests.{ltb-true, lt-ltb, eq-eqb}
 use Rattle.log.specs.EncodeLaws.{noEntry}
 use Rattle.log.specs.Numbers.{what, same, noMoment}
@@ -19,10 +19,8 @@ use Rattle.queue.specs.declared.Stage.{Stage}
 use Rattle.queue.specs.declared.Stage.the-variants.{Idle, P1, P2, P3, T1, T2, T3, T4, B1, B2, B3, B4, B5, B6, B7}
 use Rattle.queue.specs.declared.Stepped.{Stepped}
 use Rattle.runfile.specs.CaseLaws.{if-eq, if-lt}
-use Rattle.runfile.specs.Encode.{InRanges}
-use Rattle.runfile.specs.File.{RunFile}
 use Rattle.bench.specs.Moment.{queueOf, pushedNode, isTake, entry, nilMoment, takeMoment}
-use Rattle.bench.specs.State.{State, fresh, queueAt, processAt, start}
+use Rattle.bench.specs.State.{State, fresh, queueAt, processAt}
 use Rattle.bench.specs.Turn.{queueAfter, ending, acted, idle}
 use Rattle.bench.specs.declared.Process.{Process}
 use Rattle.bench.specs.declared.Queue.{Queue}
@@ -32,7 +30,7 @@ use Rattle.judge.specs.Search.{count}
 use Rattle.judge.specs.SearchLaws.{count-mono}
 use Rattle.verdict.specs.Cases.{ever, if-le, if-age, if-set}
 use Rattle.verdict.specs.Kinds.{isOwn, isFirst}
-use Rattle.verdict.specs.Sound.{processes, Sound, Was, goes, begins, Steps, rowAt}
+use Rattle.verdict.specs.Sound.{Sizes, Fit, Fresh, processes, Sound, Was, goes, begins, Steps, rowAt}
 use Rattle.verdict.specs.Lists.{All, all-snoc, all-map}
 use Rattle.verdict.specs.Content.{at}
 use Rattle.verdict.specs.Memory.{Memory, memoryAt, rowIn, logAfter, log-after}
@@ -72,7 +70,7 @@ le-trans : {x y z : ℕ} → x ≤ y → y ≤ z → x ≤ z
 le-trans a b = omega arith
 
 -- what a step does to the bottom
-abbrev Stock : ℕ → ℕ → Stage → ℕ → Next → Type 0
+abbrev pub Stock : ℕ → ℕ → Stage → ℕ → Next → Type 0
 Stock C bottom z b (next.Going y) = b ≤ bottom
 Stock C bottom z b next.Done = b ≤ bottom + 1
 Stock C bottom z b (next.Node x) = b ≤ bottom
@@ -80,10 +78,10 @@ Stock C bottom z b next.Nil = b ≤ bottom
 Stock C bottom z b next.Full = (b ≤ bottom) × (bottom ≡ C) × (isFirst z ≡ true)
 Stock C bottom z b next.Refused = b ≤ bottom
 
-abbrev StockBy : ℕ → ℕ → Stage → Stepped → Type 0
+abbrev pub StockBy : ℕ → ℕ → Stage → Stepped → Type 0
 StockBy C bottom z o = Stock C bottom z (o .word .bottom) (o .next)
 
-stock : (W C nd : ℕ) (m : Memory) (z : Stage) → (isOwn z ≡ true → Control C nd m z) → StockBy C (m .word .bottom) z (rowIn W C m z)
+pub stock : (W C nd : ℕ) (m : Memory) (z : Stage) → (isOwn z ≡ true → Control C nd m z) → StockBy C (m .word .bottom) z (rowIn W C m z)
 stock W C nd m Idle h = omega arith
 stock W C nd m (P1 x) h = if-eq (StockBy C (m .word .bottom) (P1 x)) (m .word .bottom) C (λ e. (omega arith, e, refl)) (λ e. omega arith)
 stock W C nd m (P2 x b) h = omega arith
@@ -104,11 +102,11 @@ stock W C nd m (B7 b x t g) h = omega arith
 abbrev Holds : ℕ → List Entry → Entry → Type 0
 Holds C l e = what e ≡ Full → C ≤ pushesOn l (e .queue) (2 * e .start)
 
-pub record Room (f : RunFile) (s : State) : Type 0 where
+pub record Room (f : Sizes) (s : State) : Type 0 where
   pub room : (q : ℕ) → q < processes f → queueAt (s .bench) q .word .bottom ≤ pushesOn (s .log) q (2 * s .bench .steps)
   pub fulls : All (λ (e : Entry). what e ≡ Full → f .size ≤ pushesOn (s .log) (e .queue) (2 * e .start)) (s .log)
 
-pub room-idle : (f : RunFile) (s : State) → Sound f s → Inv f s → Room f s → Room f (idle s)
+pub room-idle : (f : Sizes) (s : State) → Sound f s → Inv f s → Room f s → Room f (idle s)
 room-idle f s v h j = record {
   room = λ q lt. omega (
     arith,
@@ -119,10 +117,14 @@ room-idle f s v h j = record {
   fulls = j .fulls;
 }
 
-pub room-start : (f : RunFile) → InRanges f → Room f (start f)
-room-start f w = record { room = λ q lt. rw (getD-replicate 8 q fresh fresh (omega (arith, w .processes))) (omega arith); fulls = tt }
+pub room-fresh : (f : Sizes) → Fit f → (s : State) → Fresh f s → Room f s
+room-fresh f w s z = record {
+  room = λ q lt. subst (λ (l : List Queue). getD l q fresh .word .bottom ≤ pushesOn (s .log) q (2 * s .bench .steps)) (sym (z .queues))
+      (rw (getD-replicate 8 q fresh fresh (omega (arith, w .processes))) (omega arith));
+  fulls = subst (λ (l : List Entry). All (λ (e : Entry). what e ≡ Full → f .size ≤ pushesOn (s .log) (e .queue) (2 * e .start)) l) (sym (z .log)) tt;
+}
 
-module _ (f : RunFile) (w : InRanges f) (s : State) (v : Sound f s) (h : Inv f s) (j : Room f s) (p : ℕ) (r : Process) (k : Steps f s p r) where
+module _ (f : Sizes) (w : Fit f) (s : State) (v : Sound f s) (h : Inv f s) (j : Room f s) (p : ℕ) (r : Process) (k : Steps f s p r) where
   abbrev q : ℕ
   q = queueOf p (r .call)
 
@@ -174,7 +176,7 @@ module _ (f : RunFile) (w : InRanges f) (s : State) (v : Sound f s) (h : Inv f s
   -- a FULL is given at the first step of its call
   at-first : (r : Process) → Was f s p r → isFirst (r .stage) ≡ true → r .start ≡ n
   at-first r goes e = ever (sym e ∙ v .later p)
-  at-first r (begins _ _ _) e = refl
+  at-first r (begins _ _) e = refl
 
   -- no other entry is a FULL
   node-other : (owner : Process) (t x : ℕ) (b : Bool) → what (cond b (entry p n r TopNode x (takeMoment n owner t)) (entry p n r BottomNode x (2 * r .back))) ≡ Full

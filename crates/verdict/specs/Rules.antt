@@ -23,7 +23,8 @@ use Rattle.bench.specs.State.{State, processAt}
 use Rattle.judge.specs.Accepted.{Rule1, Rule3, Rule4, EmptyIn, RemovedIn, Accepted}
 use Rattle.judge.specs.Contents.{bears, dropLast, dropFirst, applied, eventAt, before}
 use Rattle.verdict.specs.Cases.{ever}
-use Rattle.verdict.specs.Sound.{processes}
+use Rattle.verdict.specs.Scripts.{sizesOf}
+use Rattle.verdict.specs.Origins.{Origins, Differ, node-in as file-node}
 use Rattle.verdict.specs.Lists.{All, all-snoc, all-at, pairs-at, in-at}
 use Rattle.verdict.specs.Content.{at, content, content-before}
 use Rattle.verdict.specs.Memory.{memoryAt, asOwner}
@@ -86,24 +87,24 @@ module _ (P : ℕ) (e : Entry) (p : e .process < P) (q : e .queue < P) (order : 
   no-own k (inl d) = absurd (omega arith)
   no-own k (inr d) = absurd (omega arith)
 
-  rule1 : (w : What) → e .kind ≡ kindOf w → e .result ≡ resultOf w → Fields w e → (resultOf w ≡ done → 1 ≤ e .node) → Rule1 P e
-  rule1 Pushed k r h n = by-numbers push done k r (omega arith) (λ _. sym (h .0)) (omega arith)
-  rule1 Full k r h n = by-numbers push full k r (omega arith) (λ _. sym (h .0)) (omega arith)
-  rule1 BottomNode k r h n = let i = n refl in by-numbers bottomPop done k r (omega arith) (λ _. sym h) (omega arith)
+  rule1 : (w : What) → e .kind ≡ kindOf w → e .result ≡ resultOf w → Fields w e → ((resultOf w ≡ nil → ⊥) → 1 ≤ e .node) → Rule1 P e
+  rule1 Pushed k r h n = let i = n (λ d. omega arith) in by-numbers push done k r (omega arith) (λ _. sym h) (omega arith)
+  rule1 Full k r h n = let i = n (λ d. omega arith) in by-numbers push full k r (omega arith) (λ _. sym (h .0)) (omega arith)
+  rule1 BottomNode k r h n = let i = n (λ d. omega arith) in by-numbers bottomPop done k r (omega arith) (λ _. sym h) (omega arith)
   rule1 BottomNil k r h n = by-numbers bottomPop nil k r (omega arith) (λ _. sym (h .0)) (omega arith)
-  rule1 TopNode k r h n = let i = n refl in by-numbers topPop done k r (omega arith) (no-own k) (omega arith)
+  rule1 TopNode k r h n = let i = n (λ d. omega arith) in by-numbers topPop done k r (omega arith) (no-own k) (omega arith)
   rule1 TopNil k r h n = by-numbers topPop nil k r (omega arith) (no-own k) (omega arith)
 
 -- rule 3: where there is no moment
 no-moment : (e : Entry) (w : What) → Fields w e → bearsMoment w ≡ false → e .moment ≡ noMoment
 no-moment e Pushed h b = ever b
-no-moment e Full h b = h .3
+no-moment e Full h b = h .1
 no-moment e BottomNode h b = ever b
 no-moment e BottomNil h b = ever b
 no-moment e TopNode h b = ever b
 no-moment e TopNil h b = h .1
 
-module _ (f : RunFile) (w : InRanges f) (s : State) (h : Inv f s) (j : Room f s) (idle : (p : ℕ) → processAt (s .bench) p .stage ≡ Idle)
+module _ (f : RunFile) (w : InRanges f) (s : State) (h : Inv (sizesOf f) s) (j : Room (sizesOf f) s) (g : Origins f s) (idle : (p : ℕ) → processAt (s .bench) p .stage ≡ Idle)
     (short : s .bench .steps ≤ 32767) where
   abbrev l : List Entry
   l = s .log
@@ -115,8 +116,12 @@ module _ (f : RunFile) (w : InRanges f) (s : State) (h : Inv f s) (j : Room f s)
   is-before : (q x : ℕ) → nodesBy q l (memoryAt s q) (seat s q) x ≡ nodes q x
   is-before q x = ap (λ (z : Stage). content l q (pending (memoryAt s q) (asOwner z) (seat s q .back)) x) (idle q) ∙ content-before l q x
 
-  wrote : (i : ℕ) → i < length l → Written (processes f) (at l i)
+  wrote : (i : ℕ) → i < length l → Written (length (f .shares)) (at l i)
   wrote i lt = all-at _ noEntry l (h .written) i lt
+
+  -- the node of a push is one of the file
+  file-in : (i : ℕ) → i < length l → (what (at l i) ≡ Pushed) ⊎ (what (at l i) ≡ Full) → NodeIn (at l i .node)
+  file-in i lt d = file-node f w s (at l i) (all-at _ noEntry l (g .origin) i lt d)
 
   nodes-in : (q x : ℕ) → All NodeIn (nodes q x)
   unfolding before
@@ -124,7 +129,7 @@ module _ (f : RunFile) (w : InRanges f) (s : State) (h : Inv f s) (j : Room f s)
   nodes-in q (suc x) =
       if-lt (All NodeIn) (eventAt (at l) (length l) q x) (length l)
       (λ lt. applied-in (what (at l (eventAt (at l) (length l) q x))) (at l (eventAt (at l) (length l) q x) .node) (nodes q x)
-      (λ d. let g = written-what (processes f) _ (wrote (eventAt (at l) (length l) q x) lt) Pushed d in (g .1, g .2)) (nodes-in q x))
+      (λ d. file-in (eventAt (at l) (length l) q x) lt (inl d)) (nodes-in q x))
       (λ _. nodes-in q x)
 
   module _ (i : ℕ) (lt : i < length l) where
@@ -136,29 +141,29 @@ module _ (f : RunFile) (w : InRanges f) (s : State) (h : Inv f s) (j : Room f s)
     fine = all-at _ noEntry l (h .fine) i lt
 
     -- its node was pushed
-    node-in : (w : What) → Fields w e → Right l (nodesBy (e .queue) l (memoryAt s (e .queue)) (seat s (e .queue))) e w
-        → (e .node ≤ 65535) × (resultOf w ≡ done → 1 ≤ e .node)
-    node-in Pushed g r = (g .2, λ _. g .1)
-    node-in Full g r = (g .2, λ _. g .1)
-    node-in BottomNode g r =
+    node-in : (w : What) → what e ≡ w → Fields w e → Right l (nodesBy (e .queue) l (memoryAt s (e .queue)) (seat s (e .queue))) e w
+        → (e .node ≤ 65535) × ((resultOf w ≡ nil → ⊥) → 1 ≤ e .node)
+    node-in Pushed d g r = let b = file-in i lt (inl d) in (b .1, λ _. b .0)
+    node-in Full d g r = let b = file-in i lt (inr d) in (b .1, λ _. b .0)
+    node-in BottomNode d g r =
         let b = bottom-in (r .0) (e .node) (subst (All NodeIn) (sym (is-before (e .queue) (e .moment)) ∙ r .1) (nodes-in (e .queue) (e .moment))) in
         (b .1, λ _. b .0)
-    node-in BottomNil g r = (omega (arith, g .1), λ d. absurd (omega arith))
-    node-in TopNode g r =
+    node-in BottomNil d g r = (omega (arith, g .1), λ u. absurd (u refl))
+    node-in TopNode d g r =
         let b = subst (All NodeIn) (sym (is-before (e .queue) (e .moment)) ∙ r .1) (nodes-in (e .queue) (e .moment)) .0 in
         (b .1, λ _. b .0)
-    node-in TopNil g r = (omega (arith, g .0), λ d. absurd (omega arith))
+    node-in TopNil d g r = (omega (arith, g .0), λ u. absurd (u refl))
 
     fields : Fields (what e) e
-    fields = written-what (processes f) e (wrote i lt) (what e) refl
+    fields = written-what (length (f .shares)) e (wrote i lt) (what e) refl
 
-    first-rule : Rule1 (processes f) e
+    first-rule : Rule1 (length (f .shares)) e
     first-rule =
         let d = wrote i lt in
-        let is = did-what (processes f) e d in
-        rule1 (processes f) e (d .process) (d .queue) (fine .order) (omega (arith, fine .ended)) (what e) (d .kind ∙ ap kindOf is)
+        let is = did-what (length (f .shares)) e d in
+        rule1 (length (f .shares)) e (d .process) (d .queue) (fine .order) (omega (arith, fine .ended)) (what e) (d .kind ∙ ap kindOf is)
         (d .result ∙ ap resultOf is) fields
-        (node-in (what e) fields (fine .right) .1)
+        (node-in (what e) refl fields (fine .right) .1)
 
     third-rule : Rule3 e
     third-rule = record { from = fine .from; to = fine .to; none = no-moment e (what e) fields }
@@ -171,7 +176,7 @@ module _ (f : RunFile) (w : InRanges f) (s : State) (h : Inv f s) (j : Room f s)
           queue = omega (arith, d .queue, w .processes);
           kind = omega (arith, first-rule .kind-to);
           result = omega (arith, first-rule .result);
-          node = omega (arith, node-in (what e) fields (fine .right) .0);
+          node = omega (arith, node-in (what e) refl fields (fine .right) .0);
           start = omega (arith, fine .order, fine .ended);
           end = omega (arith, fine .ended);
           moment = short-moment (bears e) refl;
@@ -186,8 +191,8 @@ module _ (f : RunFile) (w : InRanges f) (s : State) (h : Inv f s) (j : Room f s)
     once d k u a m n = by (decLt k i) (decLt i k)
       where
         by : Dec (k < i) → Dec (i < k) → ⊥
-        by (yes x) y = pairs-at Order noEntry l (h .order) k i x lt .nodes a d n
-        by (no x) (yes y) = pairs-at Order noEntry l (h .order) i k y u .nodes d a (sym n)
+        by (yes x) y = pairs-at Differ noEntry l (g .once) k i x lt a d n
+        by (no x) (yes y) = pairs-at Differ noEntry l (g .once) i k y u d a (sym n)
         by (no x) (no y) = let z : k ≡ i = omega arith in let c : at l k .moment ≡ at l i .moment = ap (λ (b : ℕ). at l b .moment) z in omega arith
 
     fourth-rule : (w : What) → what e ≡ w → Right l (nodesBy (e .queue) l (memoryAt s (e .queue)) (seat s (e .queue))) e w
@@ -215,7 +220,7 @@ module _ (f : RunFile) (w : InRanges f) (s : State) (h : Inv f s) (j : Room f s)
           topmost = inl (subst (λ (z : Entry). what z ≡ TopNode) y a);
         })
 
-  pub rules-kept : Accepted (at l) (length l) (processes f) (f .size)
+  pub rules-kept : Accepted (at l) (length l) (length (f .shares)) (f .size)
   rules-kept = record {
     rule1 = first-rule;
     rule2 = λ i k lt below. let o = pairs-at Order noEntry l (h .order) i k lt below in record { ends-rise = o .ends; starts-after = o .after };

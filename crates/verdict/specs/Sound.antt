@@ -1,79 +1,54 @@
--- What holds in every state of every run of a good file, gone-round takes or not: words, slots and stages are in range, no step was
--- refused, and each process is in a call of its own script.
-use Prim.Native.Nat.{ℕ, zero, suc, _+_, _-_, _≤_, _<_}
+-- What holds in every state of every run, whatever calls its processes begin: words, slots and stages are in range, and no step was refused.
+use Prim.Native.Nat.{ℕ, _-_, _≤_, _<_}
 use mathlib.Core.Path.{_≡_, refl, sym, ap, _∙_, subst}
-use mathlib.Core.Bool.{Bool, true, false, cond, _&&_}
-use mathlib.Core.List.{List, [], _∷_}
-use native.Mathlib.Decide.{decLt}
+use mathlib.Core.Bool.{Bool, true, false, cond}
+use mathlib.Core.List.{List, []}
 use native.Mathlib.Omega.{arith}
-use lib.Dec.{ltb}
-use lib.ListN.{length, getD, take, length-set, replicate, length-replicate, getD-replicate, List·getD-eq-default}
+use lib.ListN.{length, getD, length-set, replicate, length-replicate, getD-replicate}
 use lib.Pow.{pow-pos}
-use borrow.Author.Tests.{ltb-true}
-use Rattle.log.specs.EncodeLaws.{listOf-length, listOf-getD}
 use Rattle.queue.specs.Range.{inRange}
 use Rattle.queue.specs.RangeLaws.{WordIn, StageIn, range-in}
 use Rattle.queue.specs.Stages.{isIdle}
 use Rattle.queue.specs.Step.{loadedSlot, loaded, stored, rowOf, still}
-use Rattle.queue.specs.StepLaws.{either-way, stageAfter, stays-in, StaysIn}
+use Rattle.queue.specs.StepLaws.{stays-in, StaysIn}
 use Rattle.queue.specs.declared.Next.the-variants as next
-use Rattle.queue.specs.declared.Stage.{Stage}
 use Rattle.queue.specs.declared.Stage.the-variants.{Idle}
 use Rattle.queue.specs.declared.Stepped.{Stepped}
 use Rattle.queue.specs.declared.Store.{Store}
 use Rattle.queue.specs.declared.Store.the-variants as store
-use Rattle.runfile.specs.Check.{sum}
-use Rattle.runfile.specs.Encode.{CallInRange, InRanges}
-use Rattle.runfile.specs.File.{RunFile}
 use Rattle.runfile.specs.declared.Call.{Call}
 use Rattle.runfile.specs.declared.Call.the-variants.{Push, Pop, Take, Wrong}
 use Rattle.bench.specs.Moment.{queueOf}
-use Rattle.bench.specs.State.{State, fresh, nobody, scripted, queueAt, processAt, start}
-use Rattle.bench.specs.Turn.{firstStage, begun, ready, processAfter, stepping, acted, act, idle, turnAs, turn}
+use Rattle.bench.specs.State.{State, fresh, nobody, queueAt, processAt, start}
+use Rattle.bench.specs.Turn.{firstStage, begun, processAfter, stepping, acted, act, idle}
 use Rattle.bench.specs.declared.Process.{Process}
 use Rattle.bench.specs.declared.Queue.{Queue}
-use Rattle.verdict.specs.Cases.{never, ever, if-set}
-use Rattle.verdict.specs.Kinds.{isFirst, Suits, within, still-suits, first-suits, idle-is, no-refusal}
+use Rattle.verdict.specs.Cases.{never, if-set}
+use Rattle.verdict.specs.Kinds.{isFirst, Suits, within, still-suits, first-suits, no-refusal}
 
-abbrev pub processes : RunFile → ℕ
-processes f = length (f .shares)
+pub record Sizes : Type 0 where
+  pub width : ℕ
+  pub size : ℕ
+  pub processes : ℕ
 
--- the calls of process p are those of the file from `low f p` to `high f p`
-abbrev pub low : RunFile → ℕ → ℕ
-low f p = sum (take p (f .shares))
+pub record Fit (f : Sizes) : Type 0 where
+  pub width : (1 ≤ f .width) × (f .width ≤ 16)
+  pub size : (1 ≤ f .size) × (f .size ≤ 64)
+  pub processes : (1 ≤ f .processes) × (f .processes ≤ 8)
 
-abbrev pub high : RunFile → ℕ → ℕ
-high f p = sum (take (suc p) (f .shares))
-
-pub sum-take : (n : ℕ) (l : List ℕ) → sum (take n l) ≤ sum l
-sum-take zero l = omega arith
-sum-take (suc n) [] = omega arith
-sum-take (suc n) (x ∷ l) = omega (arith, sum-take n l)
-
-pub sum-next : (p : ℕ) (l : List ℕ) → sum (take p l) ≤ sum (take (suc p) l)
-sum-next zero l = omega arith
-sum-next (suc p) [] = omega arith
-sum-next (suc p) (x ∷ l) = omega (arith, sum-next p l)
+abbrev pub processes : Sizes → ℕ
+processes f = f .processes
 
 abbrev pub slotsAt : State → ℕ → List ℕ
 slotsAt s q = getD (s .slots) q []
 
--- where the calls end that the process has finished; the one that it is in does not count
-abbrev pub finished : Process → ℕ
-finished r = cond (isIdle (r .stage)) (r .next) (r .next - 1)
-
--- a process's record: its stage is in range and suits its call, which is the one before `next` of its own calls of the file
-pub record Placed (f : RunFile) (p : ℕ) (r : Process) : Type 0 where
+-- a process's record: its stage is in range and suits its call, which is on one of the queues
+pub record Placed (f : Sizes) (p : ℕ) (r : Process) : Type 0 where
   pub stage : StageIn (f .width) (f .size) (r .stage)
   pub suits : Suits (r .call) (r .stage)
-  pub queue : queueOf p (r .call) < processes f
-  pub stop : r .stop ≡ high f p
-  pub from : low f p ≤ finished r
-  pub to : r .next ≤ r .stop
-  pub begun : isIdle (r .stage) ≡ false → 1 ≤ r .next
-  pub call : isIdle (r .stage) ≡ false → getD (f .calls) (r .next - 1) Pop ≡ r .call
+  pub queue : queueOf p (r .call) < f .processes
 
-pub record Sound (f : RunFile) (s : State) : Type 0 where
+pub record Sound (f : Sizes) (s : State) : Type 0 where
   pub queues : length (s .bench .queues) ≡ 8
   pub records : length (s .bench .processes) ≡ 8
   pub tables : length (s .slots) ≡ 8
@@ -84,25 +59,43 @@ pub record Sound (f : RunFile) (s : State) : Type 0 where
   pub later : (p : ℕ) → isFirst (processAt (s .bench) p .stage) ≡ false
   pub absent : (p : ℕ) → processes f ≤ p → processAt (s .bench) p .stage ≡ Idle
 
--- the record with which a process steps: its own, in the middle of a call, or with its next call begun
-pub data Was (f : RunFile) (s : State) (p : ℕ) : Process → Type 0 where
+-- the record with which a process steps: its own, in the middle of a call, or with a call begun
+pub data Was (f : Sizes) (s : State) (p : ℕ) : Process → Type 0 where
   goes : Was f s p (processAt (s .bench) p)
-  begins : (call : Call) → processAt (s .bench) p .stage ≡ Idle → processAt (s .bench) p .next < processAt (s .bench) p .stop
-      → Was f s p (begun (s .bench .steps) call (processAt (s .bench) p))
+  begins : (call : Call) → processAt (s .bench) p .stage ≡ Idle → Was f s p (begun (s .bench .steps) call (processAt (s .bench) p))
 
-pub record Steps (f : RunFile) (s : State) (p : ℕ) (r : Process) : Type 0 where
+pub record Steps (f : Sizes) (s : State) (p : ℕ) (r : Process) : Type 0 where
   pub below : p < processes f
   pub busy : isIdle (r .stage) ≡ false
   pub placed : Placed f p r
   pub was : Was f s p r
 
+-- a call on one of the queues, whatever node it pushes
+abbrev pub CallIn : ℕ → Call → Type 0
+CallIn processes (Push node) = Unit {0}
+CallIn processes Pop = Unit {0}
+CallIn processes (Take queue) = queue < processes
+CallIn processes (Wrong n) = ⊥
+
 -- the row of the table that the step is
-abbrev pub rowAt : RunFile → State → ℕ → Process → Stepped
+abbrev pub rowAt : Sizes → State → ℕ → Process → Stepped
 rowAt f s p r =
     let q : ℕ = queueOf p (r .call) in
     rowOf (f .width) (f .size) (queueAt (s .bench) q .word) (loaded (slotsAt s q) (loadedSlot (r .stage))) (r .stage)
 
-module _ (f : RunFile) (h : InRanges f) where
+-- all 0 at first, and every process idle
+pub record Fresh (f : Sizes) (s : State) : Type 0 where
+  pub queues : s .bench .queues ≡ replicate 8 fresh
+  pub slots : s .slots ≡ replicate 8 (replicate {A = ℕ} (f .size) 0)
+  pub records : length (s .bench .processes) ≡ 8
+  pub idle : (p : ℕ) → processAt (s .bench) p .stage ≡ Idle
+  pub queue : (p : ℕ) → p < processes f → queueOf p (processAt (s .bench) p .call) < processes f
+  pub begun : (p : ℕ) → processAt (s .bench) p .start ≤ s .bench .steps
+  pub log : s .log ≡ []
+  pub going : s .bench .refused ≡ false
+  pub gone : s .bench .gone ≡ 0
+
+module _ (f : Sizes) (h : Fit f) where
   -- no step of such a state is refused
   pub stepping-is : (s : State) → Sound f s → (p : ℕ) (r : Process) → Steps f s p r → stepping (f .width) (f .size) p r s ≡ rowAt f s p r
   stepping-is s v p r k =
@@ -135,64 +128,27 @@ module _ (f : RunFile) (h : InRanges f) where
   first-in (Take q) = tt
   first-in (Wrong n) = tt
 
-  first-busy : (call : Call) → CallInRange (processes f) call → isIdle (firstStage call) ≡ false
+  first-busy : (call : Call) → CallIn (processes f) call → isIdle (firstStage call) ≡ false
   first-busy (Push node) c = refl
   first-busy Pop c = refl
   first-busy (Take q) c = refl
   first-busy (Wrong n) c = absurd c
 
-  queue-in : (p : ℕ) (call : Call) → p < processes f → CallInRange (processes f) call → queueOf p call < processes f
+  queue-in : (p : ℕ) (call : Call) → p < processes f → CallIn (processes f) call → queueOf p call < processes f
   queue-in p (Push node) lt c = lt
   queue-in p Pop lt c = lt
   queue-in p (Take q) lt c = c
   queue-in p (Wrong n) lt c = absurd c
 
-  begins-call : (s : State) → Sound f s → (p : ℕ) → p < processes f → processAt (s .bench) p .stage ≡ Idle
-      → processAt (s .bench) p .next < processAt (s .bench) p .stop
-      → Steps f s p (begun (s .bench .steps) (getD (f .calls) (processAt (s .bench) p .next) Pop) (processAt (s .bench) p))
-  begins-call s v p lt z l =
-      let r : Process = processAt (s .bench) p in
-      let o = v .each p lt in
-      let c : Call = getD (f .calls) (r .next) Pop in
-      let w : low f p ≤ r .next = subst (λ (x : Stage). low f p ≤ cond (isIdle x) (r .next) (r .next - 1)) z (o .from) in
-      let ok : CallInRange (processes f) c = h .calls (r .next) (omega (arith, o .stop, h .count, sum-take (suc p) (f .shares))) in
-      let e : r .next + 1 - 1 ≡ r .next = omega arith in
-      record {
-        below = lt;
-        busy = first-busy c ok;
-        placed = record {
-          stage = first-in c;
-          suits = first-suits c;
-          queue = queue-in p c lt ok;
-          stop = o .stop;
-          from = rw (first-busy c ok) (omega arith);
-          to = omega arith;
-          begun = λ _. omega arith;
-          call = λ _. ap (λ (k : ℕ). getD (f .calls) k Pop) e;
-        };
-        was = begins c z l;
-      }
-
-  -- the record with which a process makes a schedule step: idle with no call left, or in a call
-  pub ready-case : (Q : Process → Type 0) (s : State) → Sound f s → (p : ℕ) → p < processes f
-      → (isIdle (processAt (s .bench) p .stage) ≡ true → Q (processAt (s .bench) p)) → ((r : Process) → Steps f s p r → Q r)
-      → Q (ready (f .calls) (s .bench .steps) (processAt (s .bench) p))
-  ready-case Q s v p lt i a = by (isIdle (processAt (s .bench) p .stage)) refl (ltb (processAt (s .bench) p .next) (processAt (s .bench) p .stop)) refl
-    where
-      by : (t : Bool) → isIdle (processAt (s .bench) p .stage) ≡ t → (u : Bool) → ltb (processAt (s .bench) p .next) (processAt (s .bench) p .stop) ≡ u
-          → Q (cond (t && u) (begun (s .bench .steps) (getD (f .calls) (processAt (s .bench) p .next) Pop) (processAt (s .bench) p)) (processAt (s .bench) p))
-      by true e true d = a _ (begins-call s v p lt (idle-is _ e) (ltb-true _ _ d))
-      by true e false d = i e
-      by false e u d = a _ (goes-on s v p lt e)
-
-  -- a turn of the schedule is an idle step, or a step in a call
-  pub turn-case : (Q : State → Type 0) (s : State) → Sound f s → (p : ℕ) → p < processes f → Q (idle s)
-      → ((r : Process) → Steps f s p r → Q (act (f .width) (f .size) p r s)) → Q (turn (f .width) (f .size) (f .calls) p s)
-  unfolding turn
-  turn-case Q s v p lt i a =
-      ready-case (λ (r : Process). Q (turnAs (f .width) (f .size) p s r)) s v p lt
-      (λ e. either-way Q (isIdle (processAt (s .bench) p .stage)) (λ c. i) (λ c. ever (sym e ∙ c)))
-      (λ r k. either-way Q (isIdle (r .stage)) (λ c. ever (sym c ∙ k .busy)) (λ c. a r k))
+  -- an idle process may begin any call
+  pub begins-call : (s : State) → (p : ℕ) → p < processes f → processAt (s .bench) p .stage ≡ Idle → (call : Call) → CallIn (processes f) call
+      → Steps f s p (begun (s .bench .steps) call (processAt (s .bench) p))
+  begins-call s p lt z c ok = record {
+    below = lt;
+    busy = first-busy c ok;
+    placed = record { stage = first-in c; suits = first-suits c; queue = queue-in p c lt ok };
+    was = begins c z;
+  }
 
   -- the step keeps all
   module _ (s : State) (v : Sound f s) (p : ℕ) (r : Process) (k : Steps f s p r) where
@@ -214,9 +170,6 @@ module _ (f : RunFile) (h : InRanges f) where
     stored-length l store.Nothing = refl
     stored-length l (store.Slot at node) = length-set l at node
 
-    finished-up : (z : Stage) → low f p ≤ r .next - 1 → low f p ≤ cond (isIdle z) (r .next) (r .next - 1)
-    finished-up z a = either-way (λ (x : ℕ). low f p ≤ x) (isIdle z) (λ e. omega arith) (λ e. a)
-
     placed-after : Placed f p (processAfter (s .bench .steps) (queueAt (s .bench) (queueOf p (r .call)) .resets) r (rowAt f s p r .next))
     placed-after =
         let o = k .placed in
@@ -224,11 +177,6 @@ module _ (f : RunFile) (h : InRanges f) where
           stage = stays .stage;
           suits = still-suits (r .call) (r .stage) _ (within _ _ _ _ (r .stage)) (o .suits);
           queue = o .queue;
-          stop = o .stop;
-          from = finished-up (stageAfter (rowAt f s p r .next)) (subst (λ (b : Bool). low f p ≤ cond b (r .next) (r .next - 1)) (k .busy) (o .from));
-          to = o .to;
-          begun = λ e. o .begun (k .busy);
-          call = λ e. o .call (k .busy);
         }
 
     pub sound-act : Sound f (acted p r s (rowAt f s p r))
@@ -265,37 +213,21 @@ module _ (f : RunFile) (h : InRanges f) where
     absent = v .absent;
   }
 
-  -- all 0 at first
-  pub first-at : (p : ℕ) → p < 8 → processAt (start f .bench) p ≡ scripted (f .shares) p
-  first-at p lt = listOf-getD 8 (scripted (f .shares)) nobody p lt
-
-  pub sound-start : Sound f (start f)
-  sound-start = record {
-    queues = length-replicate 8 fresh;
-    records = listOf-length 8 (scripted (f .shares));
-    tables = length-replicate 8 (replicate {A = ℕ} (f .size) 0);
-    words = λ q lt. rw (getD-replicate 8 q fresh fresh (omega (arith, h .processes))) (record {
-      bottom-in = omega arith;
-      top-in = omega arith;
-      tag-in = pow-pos
-          (f .width);
-    });
-    sizes = λ q lt. rw (getD-replicate 8 q (replicate {A = ℕ} (f .size) 0) [] (omega (arith, h .processes))) (length-replicate {A = ℕ} (f .size) 0);
-    going = refl;
-    each = λ p lt. rw (first-at p (omega (arith, h .processes))) (record {
-      stage = tt;
-      suits = record { own = λ e. never e; top = λ e. never e; push = λ e. never e };
-      queue = lt;
-      stop = refl;
-      from = omega arith;
-      to = sum-next p (f .shares);
-      begun = λ e. ever e;
-      call = λ e. ever e;
-    });
-    later = λ p. ap isFirst (out p (decLt p 8));
-    absent = λ p le. out p (decLt p 8);
+  pub sound-fresh : (s : State) → Fresh f s → Sound f s
+  sound-fresh s z = record {
+    queues = ap length (z .queues) ∙ length-replicate 8 fresh;
+    records = z .records;
+    tables = ap length (z .slots) ∙ length-replicate 8 (replicate {A = ℕ} (f .size) 0);
+    words = λ q lt. subst (λ (l : List Queue). WordIn (f .width) (f .size) (getD l q fresh .word)) (sym (z .queues))
+        (rw (getD-replicate 8 q fresh fresh (omega (arith, h .processes))) (record { bottom-in = omega arith; top-in = omega arith; tag-in = pow-pos (f .width) }));
+    sizes = λ q lt. subst (λ (l : List (List ℕ)). length (getD l q []) ≡ f .size) (sym (z .slots))
+        (rw (getD-replicate 8 q (replicate {A = ℕ} (f .size) 0) [] (omega (arith, h .processes))) (length-replicate {A = ℕ} (f .size) 0));
+    going = z .going;
+    each = λ p lt. record {
+      stage = subst (StageIn (f .width) (f .size)) (sym (z .idle p)) tt;
+      suits = subst (Suits (processAt (s .bench) p .call)) (sym (z .idle p)) (record { own = λ e. never e; top = λ e. never e; push = λ e. never e });
+      queue = z .queue p lt;
+    };
+    later = λ p. ap isFirst (z .idle p);
+    absent = λ p le. z .idle p;
   }
-    where
-      out : (p : ℕ) → Dec (p < 8) → processAt (start f .bench) p .stage ≡ Idle
-      out p (yes lt) = ap (λ (x : Process). x .stage) (first-at p lt)
-      out p (no ge) = ap (λ (x : Process). x .stage) (List·getD-eq-default (start f .bench .processes) nobody {n = p} (omega arith))

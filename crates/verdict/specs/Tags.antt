@@ -7,7 +7,7 @@ use mathlib.Core.List.{List}
 use native.Mathlib.Omega.{arith}
 use native.Mathlib.Nat.{mod-lt, mod-add-mod, zero-mod}
 use lib.Dec.{ltb, leb, eqb}
-use lib.ListN.{getD-replicate}
+use lib.ListN.{length, getD, getD-replicate}
 use lib.Pow.{pow-pos}
 use borrow.Author.Tests.{eq-eqb, leb-true, le-leb}
 use Rattle.queue.specs.Stages.{rowNumber, atT1}
@@ -34,8 +34,10 @@ use Rattle.bench.specs.declared.Process.{Process}
 use Rattle.bench.specs.declared.Queue.{Queue}
 use Rattle.verdict.specs.Cases.{never, ever, if-age, if-set}
 use Rattle.verdict.specs.Kinds.{isPush, isOwn, isTop, within, own-queue, whose}
-use Rattle.verdict.specs.Sound.{processes, slotsAt, Sound, Was, goes, begins, Steps, rowAt, first-at}
-use Rattle.verdict.specs.Induction.{StateOf, everywhere, the-end}
+use Rattle.verdict.specs.Sound.{Sizes, Fit, Fresh, processes, slotsAt, Sound, Was, goes, begins, Steps, rowAt}
+use Rattle.verdict.specs.Reached.{Reached, everywhere}
+use Rattle.verdict.specs.Scripts.{sizesOf, fit, start-fresh}
+use Rattle.verdict.specs.Induction.{StateOf, ByScript, reached, the-end}
 
 -- the tag that a stage has loaded; 0 where there is none
 abbrev pub loadedTag : Stage → ℕ
@@ -153,15 +155,15 @@ past-owns : (s : Stage) → pastB4 s ≡ true → isOwn s ≡ true
 past-owns s e = or-r (isPush s) (leb 8 (rowNumber s)) (le-leb 8 (rowNumber s) (omega (arith, leb-true 12 (rowNumber s) e)))
 
 -- what holds of the record of process p, or of one with its next call begun
-record Seen (W : ℕ) (s : State) (p : ℕ) (r : Process) : Type 0 where
+pub record Seen (W : ℕ) (s : State) (p : ℕ) (r : Process) : Type 0 where
   own : pastB4 (r .stage) ≡ true → loadedTag (r .stage) ≡ queueAt (s .bench) p .word .tag
   thief : pastT1 (r .stage) ≡ true → (r .seen ≤ queueAt (s .bench) (queueOf p (r .call)) .resets) × (loadedTag (r .stage) ≡ r .seen % 2 ^ W)
 
-record TagsRight (f : RunFile) (s : State) : Type 0 where
-  tags : (q : ℕ) → q < processes f → queueAt (s .bench) q .word .tag ≡ queueAt (s .bench) q .resets % 2 ^ f .width
-  seen : (p : ℕ) → p < processes f → Seen (f .width) s p (processAt (s .bench) p)
+pub record TagsRight (f : Sizes) (s : State) : Type 0 where
+  pub tags : (q : ℕ) → q < processes f → queueAt (s .bench) q .word .tag ≡ queueAt (s .bench) q .resets % 2 ^ f .width
+  pub seen : (p : ℕ) → p < processes f → Seen (f .width) s p (processAt (s .bench) p)
 
-module _ (f : RunFile) (h : InRanges f) (s : State) (v : Sound f s) (i : TagsRight f s) (p : ℕ) (r : Process) (k : Steps f s p r) where
+module _ (f : Sizes) (h : Fit f) (s : State) (v : Sound f s) (i : TagsRight f s) (p : ℕ) (r : Process) (k : Steps f s p r) where
   abbrev q : ℕ
   q = queueOf p (r .call)
 
@@ -177,7 +179,7 @@ module _ (f : RunFile) (h : InRanges f) (s : State) (v : Sound f s) (i : TagsRig
   -- a call that begins has loaded no tag
   saw : (r : Process) → Was f s p r → Seen (f .width) s p r
   saw r goes = i .seen p (k .below)
-  saw r (begins call _ _) = first call
+  saw r (begins call _) = first call
     where
       first : (call : Call) → Seen (f .width) s p (begun (s .bench .steps) call (processAt (s .bench) p))
       first (Push node) = record { own = never; thief = never }
@@ -255,7 +257,7 @@ module _ (f : RunFile) (h : InRanges f) (s : State) (v : Sound f s) (i : TagsRig
   -- a top pop at T4 has not just begun
   at-T4 : (r : Process) → Was f s p r → rowNumber (r .stage) ≡ 7 → r ≡ processAt (s .bench) p
   at-T4 r goes e = refl
-  at-T4 r (begins call _ _) e = absurd (first call e)
+  at-T4 r (begins call _) e = absurd (first call e)
     where
       first : (call : Call) → rowNumber (firstStage call) ≡ 7 → ⊥
       first (Push node) e = omega arith
@@ -263,43 +265,73 @@ module _ (f : RunFile) (h : InRanges f) (s : State) (v : Sound f s) (i : TagsRig
       first (Take q) e = omega arith
       first (Wrong n) e = omega arith
 
-tags-idle : (f : RunFile) (s : State) → TagsRight f s → TagsRight f (idle s)
+tags-idle : (f : Sizes) (s : State) → TagsRight f s → TagsRight f (idle s)
 tags-idle f s i = record { tags = i .tags; seen = λ p lt. let w = i .seen p lt in record { own = w .own; thief = w .thief } }
 
-tags-start : (f : RunFile) → InRanges f → TagsRight f (start f)
-tags-start f h = record {
-  tags = λ q lt. rw (getD-replicate 8 q fresh fresh (omega (arith, h .processes))) (sym (zero-mod (2 ^ f .width)));
-  seen = λ p lt. rw (first-at f h p (omega (arith, h .processes))) (record { own = never; thief = never });
+tags-fresh : (f : Sizes) → Fit f → (s : State) → Fresh f s → TagsRight f s
+tags-fresh f h s z = record {
+  tags = λ q lt. subst (λ (l : List Queue). getD l q fresh .word .tag ≡ getD l q fresh .resets % 2 ^ f .width) (sym (z .queues))
+      (rw (getD-replicate 8 q fresh fresh (omega (arith, h .processes))) (sym (zero-mod (2 ^ f .width))));
+  seen = λ p lt. record { own = λ e. never (ap pastB4 (sym (z .idle p)) ∙ e); thief = λ e. never (ap pastT1 (sym (z .idle p)) ∙ e) };
 }
 
-tags-right : (f : RunFile) → InRanges f → (s : State) → StateOf f s → TagsRight f s
-tags-right f h s o = everywhere f h (TagsRight f) (tags-start f h) (λ s o v i. tags-idle f s i) (λ s o v i p r k. tags-act f h s v i p r k) s o .1
+-- the resets of each queue are at most the steps
+resets-act : (f : Sizes) → Fit f → (s : State) → Sound f s → TagsRight f s → ((q : ℕ) → q < processes f → queueAt (s .bench) q .resets ≤ s .bench .steps)
+    → (p : ℕ) (r : Process) → Steps f s p r → (q : ℕ) → q < processes f → queueAt (acted p r s (rowAt f s p r) .bench) q .resets ≤ s .bench .steps + 1
+resets-act f h s v i few p r k q lt =
+    at-queue f h s v i p r k (λ (m : Queue). m .resets ≤ s .bench .steps + 1) q
+    (λ e. either-way (λ (n : ℕ). n ≤ s .bench .steps + 1) (rowAt f s p r .reset)
+    (λ _. omega (arith, few (queueOf p (r .call)) (k .placed .queue))) (λ _. omega (arith, few (queueOf p (r .call)) (k .placed .queue))))
+    (λ e. omega (arith, few q lt))
+
+-- a run of fewer than 2^W steps has no gone-round take
+pub record Short (f : Sizes) (s : State) : Type 0 where
+  pub right : TagsRight f s
+  pub few : (q : ℕ) → q < processes f → queueAt (s .bench) q .resets ≤ s .bench .steps
+  pub none : s .bench .steps < 2 ^ f .width → s .bench .gone ≡ 0
+
+pub short : (f : Sizes) → Fit f → (Ok : State → ℕ → Process → Type 0) (s₀ : State) → Fresh f s₀ → (s : State) → Reached f Ok s₀ s → Short f s
+short f h Ok s₀ z s o = everywhere f h Ok s₀ z (Short f)
+    (record {
+      right = tags-fresh f h s₀ z;
+      few = λ q lt. subst (λ (l : List Queue). getD l q fresh .resets ≤ s₀ .bench .steps) (sym (z .queues)) (rw (getD-replicate 8 q fresh fresh (omega (arith, h .processes))) (omega arith));
+      none = λ _. z .gone;
+    })
+    (λ s v i. record { right = tags-idle f s (i .right); few = λ q lt. omega (arith, i .few q lt); none = λ lt. i .none (omega arith) })
+    (λ s v i p r k ok. record {
+      right = tags-act f h s v (i .right) p r k;
+      few = resets-act f h s v (i .right) (i .few) p r k;
+      none = λ lt. omega (arith, i .none (omega arith), none-here f h s v (i .right) p r k (λ _ _. omega (arith, i .few (queueOf p (r .call)) (k .placed .queue))));
+    }) s o .1
 
 -- In every state of every run the tag of a queue is its resets mod 2^W.
-pub tag-is-resets : (f : RunFile) → InRanges f → (s : State) → StateOf f s → (q : ℕ) → q < processes f
+pub tag-is-resets : (f : RunFile) → InRanges f → (s : State) → StateOf f s → (q : ℕ) → q < length (f .shares)
     → queueAt (s .bench) q .word .tag ≡ queueAt (s .bench) q .resets % 2 ^ f .width
-tag-is-resets f h s o q lt = tags-right f h s o .tags q lt
+tag-is-resets f h s o q lt = short (sizesOf f) (fit f h) (ByScript f) (start f) (start-fresh f h) s (reached f h s o) .right .tags q lt
 
 -- Whoever stands at T4 has seen its queue reset fewer than 2^W times since its T1.
 abbrev pub FewResets : RunFile → State → Type 0
-FewResets f s = (p : ℕ) → p < processes f → rowNumber (processAt (s .bench) p .stage) ≡ rowNumber (T4 0 0 0 0)
+FewResets f s = (p : ℕ) → p < length (f .shares) → rowNumber (processAt (s .bench) p .stage) ≡ rowNumber (T4 0 0 0 0)
     → queueAt (s .bench) (queueOf p (processAt (s .bench) p .call)) .resets < processAt (s .bench) p .seen + 2 ^ f .width
 
 -- Where that is so in every state of the run, no take is gone-round.
 pub none-gone-round : (f : RunFile) → InRanges f → ((s : State) → StateOf f s → FewResets f s) → closed f .bench .gone ≡ 0
 none-gone-round f h few =
-    everywhere f h (λ s. TagsRight f s × (s .bench .gone ≡ 0)) (tags-start f h, refl) (λ s o v i. (tags-idle f s (i .0), i .1))
-    (λ s o v i p r k. (
-      tags-act f h s v (i .0) p r k,
+    let z = sizesOf f in
+    let w = fit f h in
+    everywhere z w (ByScript f) (start f) (start-fresh f h) (λ s. TagsRight z s × (s .bench .gone ≡ 0)) (tags-fresh z w (start f) (start-fresh f h), refl)
+    (λ s v i. (tags-idle z s (i .0), i .1))
+    (λ s v i p r k ok. (
+      tags-act z w s v (i .0) p r k,
       omega (
         arith,
         i .1,
-        none-here f h s v (i .0) p r k (λ _ e.
-            subst (λ (x : Process). queueAt (s .bench) (queueOf p (x .call)) .resets < x .seen + 2 ^ f .width) (sym (at-T4 f h s v (i .0) p r k r (k .was) e))
-            (few s o p (k .below) (ap (λ (x : Process). rowNumber (x .stage)) (sym (at-T4 f h s v (i .0) p r k r (k .was) e)) ∙ e))),
+        none-here z w s v (i .0) p r k (λ _ e.
+            subst (λ (x : Process). queueAt (s .bench) (queueOf p (x .call)) .resets < x .seen + 2 ^ f .width) (sym (at-T4 z w s v (i .0) p r k r (k .was) e))
+            (few s (ok .1) p (k .below) (ap (λ (x : Process). rowNumber (x .stage)) (sym (at-T4 z w s v (i .0) p r k r (k .was) e)) ∙ e))),
       ),
     ))
-    (closed f) (the-end f) .1 .1
+    (closed f) (reached f h (closed f) (the-end f)) .1 .1
 
 -- The same of files: of a run that is refused there is nothing to show.
 pub few-resets : (file : List ℕ) → Bytes file → (room : ℕ) → ((f : RunFile) → fileOf file ≡ good f → (s : State) → StateOf f s → FewResets f s)

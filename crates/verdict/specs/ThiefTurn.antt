@@ -116,7 +116,7 @@ no-lt a b h i = omega arith
 no-suc : (t u : ℕ) → u ≡ t → t + 1 ≡ u → ⊥
 no-suc t u a b = omega arith
 
-not-gone : (a b : ℕ) → _≡_ {A = ℕ} (cond (not (eqb a b)) 1 0) 0 → a ≡ b
+pub not-gone : (a b : ℕ) → _≡_ {A = ℕ} (cond (not (eqb a b)) 1 0) 0 → a ≡ b
 not-gone a b = by (eqb a b) refl
   where
     by : (t : Bool) → eqb a b ≡ t → _≡_ {A = ℕ} (cond (not t) 1 0) 0 → a ≡ b

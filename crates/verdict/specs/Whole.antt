@@ -7,22 +7,19 @@ use mathlib.Core.List.{List}
 use mathlib.Core.Option.{Option}
 use mathlib.Core.Logic.{_⊎_, inl, inr}
 use native.Mathlib.Omega.{arith}
-use lib.ListN.{getD}
 use Rattle.log.specs.Numbers.{kindOf, resultOf, bearsMoment, noMoment, what}
 use Rattle.log.specs.declared.Entry.{Entry}
 use Rattle.log.specs.declared.What.{What}
 use Rattle.log.specs.declared.What.the-variants.{Pushed, Full, BottomNode, BottomNil, TopNode, TopNil}
 use Rattle.queue.specs.Stages.{isIdle, pastB2}
 use Rattle.queue.specs.declared.Stage.{Stage}
-use Rattle.runfile.specs.File.{RunFile}
 use Rattle.runfile.specs.declared.Call.{Call}
-use Rattle.runfile.specs.declared.Call.the-variants.{Push, Pop}
 use Rattle.bench.specs.Moment.{queueOf, pushedNode}
 use Rattle.bench.specs.State.{State, processAt}
 use Rattle.bench.specs.declared.Process.{Process}
 use Rattle.judge.specs.Contents.{bears}
 use Rattle.verdict.specs.Kinds.{isOwn}
-use Rattle.verdict.specs.Sound.{processes, low, finished}
+use Rattle.verdict.specs.Sound.{Sizes, processes}
 use Rattle.verdict.specs.Lists.{All, Pairs, In, all-map, in-snoc}
 use Rattle.verdict.specs.Content.{Free, content, add-other}
 use Rattle.verdict.specs.Memory.{Memory, memoryAt, asOwner}
@@ -62,16 +59,11 @@ pub record Order (a b : Entry) : Type 0 where
   pub ends : a .end < b .end
   pub after : a .process ≡ b .process → a .end < b .start
   pub differ : bears a ≡ true → bears b ≡ true → a .moment ≡ b .moment → ⊥
-  pub nodes : what a ≡ Pushed → what b ≡ Pushed → a .node ≡ b .node → ⊥
 
--- the call of the file that a push of the log was, one that its process has finished
-abbrev pub Origin : RunFile → State → Entry → Type 0
-Origin f s e = what e ≡ Pushed → (i : ℕ) × (low f (e .process) ≤ i) × (i < finished (processAt (s .bench) (e .process))) × (getD (f .calls) i Pop ≡ Push (e .node))
-
--- rule 1, but for the nodes that are taken
+-- rule 1, but for the nodes
 abbrev pub Fields : What → Entry → Type 0
-Fields Pushed e = (e .queue ≡ e .process) × (1 ≤ e .node) × (e .node ≤ 65535)
-Fields Full e = (e .queue ≡ e .process) × (1 ≤ e .node) × (e .node ≤ 65535) × (e .moment ≡ noMoment)
+Fields Pushed e = e .queue ≡ e .process
+Fields Full e = (e .queue ≡ e .process) × (e .moment ≡ noMoment)
 Fields BottomNode e = e .queue ≡ e .process
 Fields BottomNil e = (e .queue ≡ e .process) × (e .node ≡ 0)
 Fields TopNode e = Unit {0}
@@ -85,7 +77,7 @@ pub record Written (P : ℕ) (e : Entry) : Type 0 where
   pub result : e .result ≡ resultOf did
   pub fields : Fields did e
 
-pub record Inv (f : RunFile) (s : State) : Type 0 where
+pub record Inv (f : Sizes) (s : State) : Type 0 where
   pub queues : (q : ℕ) → q < processes f → SeatOk (f .size) (s .bench .steps) q (s .log) (memoryAt s q) (seat s q)
   pub timed : (p : ℕ) → p < processes f → Timed (s .bench .steps) p (s .log) (processAt (s .bench) p)
   pub thieves : (p : ℕ) → p < processes f → ThiefOk (f .size) (s .bench .steps) p (s .log) (memoryAt s (queueOf p (processAt (s .bench) p .call))) (seat s (queueOf p (processAt (s .bench) p .call))) (processAt (s .bench) p)
@@ -93,11 +85,10 @@ pub record Inv (f : RunFile) (s : State) : Type 0 where
       → seat s a .back ≡ seat s b .back → ⊥
   pub fine : All (λ (e : Entry). Fine (s .bench .steps) (s .log) (nodesBy (e .queue) (s .log) (memoryAt s (e .queue)) (seat s (e .queue))) e) (s .log)
   pub order : Pairs Order (s .log)
-  pub origin : All (Origin f s) (s .log)
   pub written : All (Written (processes f)) (s .log)
 
 -- from now on the log has no moments
-pub old-log : (f : RunFile) (s : State) → Inv f s → Old (s .bench .steps) (s .log)
+pub old-log : (f : Sizes) (s : State) → Inv f s → Old (s .bench .steps) (s .log)
 old-log f s h x i = all-map _ _ (λ e g b d. no-late e g b d) (s .log) (h .fine)
   where
     no-late : (e : Entry) → Fine (s .bench .steps) (s .log) (nodesBy (e .queue) (s .log) (memoryAt s (e .queue)) (seat s (e .queue))) e → bears e ≡ true
