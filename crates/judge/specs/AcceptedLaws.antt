@@ -26,8 +26,8 @@ use Rattle.judge.specs.Accepted.{Rule3, TopIs, BottomIs, Rule4, EmptyIn,
 use Rattle.judge.specs.BoolLaws.{contra, not-so, and-i, and-0, and-1, or-l, or-r, or-e, or-0, guarded, not-i, not-e, not-f}
 use Rattle.judge.specs.SearchLaws.{first-is, first-hit, first-ge, Found, any-e, any-i, none-passes, any-none, none, any-no, Hit, lowest-is, lowest-le}
 use Rattle.judge.specs.FieldLaws.{fields-back, order, order-back, moment, moment-back}
-use Rattle.judge.specs.NoteLaws.{fields-of, distinct}
-use Rattle.judge.specs.CauseLaws.{topmost}
+use Rattle.judge.specs.KeptLaws.{fields-of, distinct}
+use Rattle.judge.specs.ContentLaws.{topmost}
 use Rattle.judge.specs.VerdictLaws.{headOf, says0, whole}
 
 -- the ends of a queue

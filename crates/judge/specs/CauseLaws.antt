@@ -1,235 +1,222 @@
--- Rule 5 by the notes: a cause found among the calls in the window, or at its first instant, is a cause at some instant.
+-- Rule 5 by what is kept of each queue, where all moments up to the call's end have been passed.
 use mathlib.Core.Path.{_≡_, refl, sym, ap, _∙_}
-use mathlib.Core.Bool.{Bool, true, false, _&&_, _||_, not}
+use mathlib.Core.Bool.{Bool, true, false, _&&_, not}
 use mathlib.Core.Logic.{_⊎_, inl, inr}
-use mathlib.Core.List.{List, [], _∷_}
-use Prim.Native.Nat.{ℕ, zero, suc, _+_, _-_, _*_, _≤_, _<_}
+use mathlib.Core.List.{List}
+use Prim.Native.Nat.{ℕ, suc, _+_, _-_, _*_, _≤_, _<_}
 use native.Mathlib.Omega.{arith}
-use native.Mathlib.Decide.{decLt}
-use borrow.Author.Tests.{lt-ltb, le-ltb, ltb-true, eq-eqb, eqb-true, leb-true, le-leb}
-use lib.Dec.{ltb, leb, eqb}
-use lib.ListN.{length}
+use native.Mathlib.Decide.{ℕ-discrete, decLt}
+use borrow.Author.Tests.{lt-ltb, ltb-true, ltb-false, eq-eqb, eqb-true, le-leb, leb-true, leb-false}
+use lib.Dec.{eqb, ltb, leb}
+use lib.ListN.{length, getD}
 use Rattle.log.specs.declared.Entry.{Entry}
 use Rattle.log.specs.declared.What.{What}
-use Rattle.log.specs.declared.What.the-variants.{Pushed, Full, BottomNode, BottomNil, TopNode, TopNil}
-use Rattle.log.specs.Numbers.{what, same}
+use Rattle.log.specs.declared.What.the-variants.{BottomNode, TopNode, TopNil}
+use Rattle.log.specs.Numbers.{what, same, bearsMoment}
 use Rattle.log.specs.NumbersLaws.{same-true}
-use Rattle.log.specs.Decode.{byteAt, entryAt}
-use Rattle.judge.specs.declared.Ask.the-variants.{UpTo, Event, Cause}
 use Rattle.judge.specs.Search.{first, any}
-use Rattle.judge.specs.Contents.{bears, on, happens, eventAt, before, applied, dropLast}
-use Rattle.judge.specs.Rules.{isEmpty, inCall, lawfulAt, emptyWithin, takesTopmost, removes, hasCause}
-use Rattle.judge.specs.Questions.{Distinct, leavesEmpty, nearestOf, findOf, asks, awayFrom, emptyAtOf, causedOf}
-use Rattle.judge.specs.BoolLaws.{contra, not-so, and-i, and-0, and-1, or-l, or-r, or-e, by-both}
-use Rattle.judge.specs.SearchLaws.{first-is, first-hit, first-ge, Found, any-e, any-i, Hit, lowest-is, lowest-le}
-use Rattle.judge.specs.QuestionLaws.{dist-down}
-use Rattle.judge.specs.ReplayLaws.{before-quiet, before-still, before-event}
-use Rattle.judge.specs.NoteLaws.{AllNoted, empty-note}
+use Rattle.judge.specs.Contents.{bears, on, before, applied}
+use Rattle.judge.specs.Rules.{isEmpty, inCall, emptyWithin, takesTopmost, removes, hasCause, breaks5}
+use Rattle.judge.specs.BoolLaws.{contra, and-i, and-0, and-1, or-l, or-r, or-e, by-both, not-i, not-e, not-so}
+use Rattle.judge.specs.SearchLaws.{first-is, first-hit, first-ge, any-e, any-i}
+use Rattle.judge.specs.ContentLaws.{topmost, last-one}
+use Rattle.judge.specs.Order.{momentAt, instant, Fields, Ordered}
+use Rattle.judge.specs.Causes.{uncausedBy, Clean}
+use Rattle.judge.specs.ReplayLaws.{event-of, passed, still, now-is, own-is}
+use Rattle.judge.specs.ShelfLaws.{Shelf, takes, Shelves, full-of, empty-of}
 
-pub topmost : (w : What) (c : List ℕ) → takesTopmost w c ≡ true → (w ≡ TopNode) ⊎ ((w ≡ BottomNode) × (length c ≡ 1))
-topmost Pushed c h = contra false h refl
-topmost Full c h = contra false h refl
-topmost BottomNode c h = inr (refl, eqb-true (length c) 1 h)
-topmost BottomNil c h = contra false h refl
-topmost TopNode c h = inl refl
-topmost TopNil c h = contra false h refl
+module _ (f : ℕ → Entry) (n : ℕ) (keys : List ℕ) (count : ℕ) (o : Ordered f n keys count) (fields : Fields f n) (k : ℕ) (within : k ≤ count)
+    (held filled took : List ℕ) (s : Shelves f n keys k held filled took) (e : Entry) (queue-low : e .queue < 8) (forward : e .start ≤ e .end)
+    (past : k < count → 2 * e .end + 1 < momentAt keys k) (upto : instant keys k ≤ 2 * e .end + 2) where
+  abbrev q : ℕ
+  q = e .queue
 
-last-one : (c : List ℕ) → length c ≡ 1 → isEmpty (dropLast c) ≡ true
-last-one [] h = absurd (omega arith)
-last-one (x ∷ []) h = refl
-last-one (x ∷ y ∷ c) h = absurd (omega arith)
+  abbrev a : ℕ
+  a = 2 * e .start
 
-never-filled : (f : ℕ → Entry) (n q x : ℕ) → before f n q x ≡ before f n q 0 → true ≡ isEmpty (before f n q x)
-unfolding before
-never-filled f n q x h = rw h
+  abbrev b : ℕ
+  b = 2 * e .end + 1
 
--- empty at some instant from a on: at a, or after a call with a later moment
-data Emptied (f : ℕ → Entry) (n q a x : ℕ) : Type 0 where
-  still : isEmpty (before f n q (suc a)) ≡ true → Emptied f n q a x
-  byEvent : (y : ℕ) → a < y → y ≤ x → eventAt f n q y < n → isEmpty (before f n q (suc y)) ≡ true → Emptied f n q a x
+  abbrev h : ℕ
+  h = getD held q 0
 
-emptied : (f : ℕ → Entry) (n q a k : ℕ) → isEmpty (before f n q (suc (a + k))) ≡ true → Emptied f n q a (a + k)
-emptied f n q a zero h = let e : a + 0 ≡ a = omega arith in still (sym (ap (λ (x : ℕ). isEmpty (before f n q (suc x))) e) ∙ h)
-emptied f n q a (suc k) h = split (decLt (eventAt f n q (a + suc k)) n) (emptied f n q a k)
-  where
-    split : Dec (eventAt f n q (a + suc k) < n) → (isEmpty (before f n q (suc (a + k))) ≡ true → Emptied f n q a (a + k)) → Emptied f n q a (a + suc k)
-    split (yes p) r = byEvent (a + suc k) (omega arith) (omega arith) p h
-    split (no p) r =
-        let quiet : (i : ℕ) → i < n → happens q (a + suc k) (f i) ≡ false = λ i u. not-so (happens q (a + suc k) (f i)) (λ t.
-        let z = first-hit (λ i. happens q (a + suc k) (f i)) 0 n i (omega arith) (omega arith) t in omega arith) in
-        let e : a + suc k ≡ suc (a + k) = omega arith in
-        more (r (sym (ap (λ (x : ℕ). isEmpty (before f n q x)) e) ∙ sym (ap isEmpty (before-quiet f n q (a + suc k) quiet)) ∙ h))
-      where
-        more : Emptied f n q a (a + k) → Emptied f n q a (a + suc k)
-        more (still g) = still g
-        more (byEvent y lo hi g m) = byEvent y lo (omega arith) g m
+  abbrev since : ℕ
+  since = getD filled q 0
 
-module _ (l : List ℕ) (n : ℕ) (v : List ℕ) (dis : Distinct (entryAt l) n) (there : AllNoted l n v) where
-  abbrev f : ℕ → Entry
-  f = entryAt l
+  sh : Shelf f n keys k q h since
+  sh = s .shelf q queue-low
 
-  on-bears : (q k : ℕ) → on q (f k) ≡ true → bears (f k) ≡ true
-  on-bears q k o = and-0 (bears (f k)) (eqb (f k .queue) q) o
+  abbrev other : Bool
+  other = any (λ p. not (eqb p (e .process)) && ltb a (getD took (8 * q + p) 0)) 8
 
-  on-queue : (q k : ℕ) → on q (f k) ≡ true → f k .queue ≡ q
-  on-queue q k o = eqb-true (f k .queue) q (and-1 (bears (f k)) (eqb (f k .queue) q) o)
+  abbrev empty : Bool
+  empty = emptyWithin f n q a b
 
-  -- a call with a moment is the one at its moment
-  record At (q x : ℕ) : Type 0 where
-    pub inside : eventAt f n q x < n
-    pub here : on q (f (eventAt f n q x)) ≡ true
-    pub moment : f (eventAt f n q x) .moment ≡ x
+  abbrev taken : Bool
+  taken = any (λ i. removes f n e (f i)) n
 
-  at-first : (q x : ℕ) → eventAt f n q x < n → At q x
-  at-first q x h =
-      let j = eventAt f n q x in
-      let g : happens q x (f j) ≡ true = first-is (λ i. happens q x (f i)) 0 n (omega arith) in
-      record { inside = h; here = and-0 (on q (f j)) (eqb (f j .moment) x) g; moment = eqb-true (f j .moment) x (and-1 (on q (f j)) (eqb (f j .moment) x) g) }
+  -- from just after the moments passed up to the end nothing alters
+  until : (x : ℕ) → instant keys k ≤ x → x ≤ suc b → before f n q x ≡ before f n q (instant keys k)
+  until x u v = still f n keys count o q k x within (λ w. omega (arith, past w)) u
 
-  at-of : (q x k : ℕ) → k < n → on q (f k) ≡ true → f k .moment ≡ x → At q x
-  at-of q x k u o m =
-      let z = first-hit (λ i. happens q x (f i)) 0 n k (omega arith) (omega arith) (and-i o (eq-eqb (f k .moment) x m)) in
-      at-first q x (omega arith)
+  empty-i : (x : ℕ) → a ≤ x → x ≤ b → isEmpty (before f n q (suc x)) ≡ true → hasCause f n e ≡ true
+  empty-i x u v t =
+      let p : ℕ → Bool = λ x. isEmpty (before f n q (suc x)) in
+      let z = first-hit p a (suc b - a) x u (omega arith) t in
+      or-l empty taken (lt-ltb (first p a (suc b - a)) (suc b) (omega arith))
 
-  event-self : (q x k : ℕ) → k < n → on q (f k) ≡ true → f k .moment ≡ x → eventAt f n q x ≡ k
-  event-self q x k u o m =
-      let z = at-of q x k u o m in
-      dis (eventAt f n q x) k (z .inside) u (on-bears q (eventAt f n q x) (z .here)) (on-bears q k o) (z .moment ∙ sym m)
-
-  after-event : (q x k : ℕ) → k < n → on q (f k) ≡ true → f k .moment ≡ x → before f n q (suc x) ≡ applied (what (f k)) (f k .node) (before f n q x)
-  after-event q x k u o m =
-      let z = at-of q x k u o m in
-      before-event f n q x (z .inside) ∙ ap (λ (j : ℕ). applied (what (f j)) (f j .node) (before f n q x)) (event-self q x k u o m)
-
-  empty-noted : (q x k : ℕ) → k < n → on q (f k) ≡ true → f k .moment ≡ x → leavesEmpty (byteAt v k) ≡ isEmpty (before f n q (suc x))
-  empty-noted q x k u o m =
-      ap leavesEmpty (there k u (on-bears q k o)) ∙ empty-note (lawfulAt f n (f k)) (isEmpty (before f n (f k .queue) (suc (f k .moment))))
-      ∙ ap (λ (y : ℕ). isEmpty (before f n y (suc (f k .moment)))) (on-queue q k o) ∙ ap (λ (y : ℕ). isEmpty (before f n q (suc y))) m
-
-  -- at the instant a itself
-  low-le : (q a i : ℕ) → i < n → on q (f i) ≡ true → f i .moment ≤ a → nearestOf l v n (UpTo q a) a ≤ a - f i .moment
-  low-le q a i u o h =
-      omega (arith, lowest-le (asks l v (UpTo q a)) (awayFrom l a) n i u (and-i o (le-leb (f i .moment) a h)), dist-down a (f i .moment) h)
-
-  -- no call from an instant below the nearest
-  quiet : (q a y : ℕ) → y ≤ a → a - y < nearestOf l v n (UpTo q a) a → (i : ℕ) → i < n → happens q y (f i) ≡ false
-  quiet q a y k h i u = not-so (happens q y (f i)) (λ t.
-      let m : f i .moment ≡ y = eqb-true (f i .moment) y (and-1 (on q (f i)) (eqb (f i .moment) y) t) in
-      let g = low-le q a i u (and-0 (on q (f i)) (eqb (f i .moment) y) t) (omega arith) in
-      omega arith)
-
-  empty-at : (q a : ℕ) → a < 65536 → emptyAtOf l v n q a ≡ isEmpty (before f n q (suc a))
-  empty-at q a small = split (decLt d 65536)
+  -- an instant at which the queue is empty
+  no-empty : 0 < h → since ≤ a → (x : ℕ) → a ≤ x → x ≤ b → isEmpty (before f n q (suc x)) ≡ true → ⊥
+  no-empty some le x u v t = split (decLt (instant keys k) (suc x))
     where
-      d : ℕ
-      d = nearestOf l v n (UpTo q a) a
+      split : Dec (instant keys k < suc x) → ⊥
+      split (yes w) = contra (isEmpty (before f n q (suc x))) t (ap isEmpty (until (suc x) (omega arith) (omega arith)) ∙ full-of (before f n q (instant keys k)) (omega (arith, sh .is)))
+      split (no w) = contra (isEmpty (before f n q (suc x))) t (sh .since some (suc x) (omega arith) (omega arith))
 
-      split : Dec (d < 65536) → (not (ltb d 65536) || leavesEmpty (byteAt v (findOf l v n (Event q (a - d))))) ≡ isEmpty (before f n q (suc a))
-      split (yes h) =
-          let z : Hit (asks l v (UpTo q a)) (awayFrom l a) n d = lowest-is (asks l v (UpTo q a)) (awayFrom l a) n h in
-          let o : on q (f (z .at)) ≡ true = and-0 (on q (f (z .at))) (leb (f (z .at) .moment) a) (z .passes) in
-          let k : f (z .at) .moment ≤ a = leb-true (f (z .at) .moment) a (and-1 (on q (f (z .at))) (leb (f (z .at) .moment) a) (z .passes)) in
-          let w : f (z .at) .moment ≡ a - d = omega (arith, z .keyed, dist-down a (f (z .at) .moment) k) in
-          let s : At q (a - d) = at-of q (a - d) (z .at) (z .below) o w in
-          let e : suc (a - d) + d ≡ suc a = omega (arith, z .keyed, dist-down a (f (z .at) .moment) k) in
-          let b : before f n q (suc (a - d) + d) ≡ before f n q (suc (a - d)) = before-still f n q (suc (a - d)) d (λ y lo hi. quiet q a y (omega arith) (omega arith)) in
-          let c : before f n q (suc a) ≡ before f n q (suc (a - d)) = ap (before f n q) (sym e) ∙ b in
-          rw (lt-ltb d 65536 h, c) (empty-noted q (a - d) (eventAt f n q (a - d)) (s .inside) (s .here) (s .moment))
-      split (no h) =
-          let b : before f n q (0 + suc a) ≡ before f n q 0 = before-still f n q 0 (suc a) (λ y lo hi. quiet q a y (omega arith) (omega arith)) in
-          let e : 0 + suc a ≡ suc a = omega arith in
-          rw (le-ltb d 65536 (omega arith)) (never-filled f n q (suc a) (ap (before f n q) (sym e) ∙ b))
+  inside : (i : ℕ) → i < n → bears (f i) ≡ true → f i .moment ≤ b → f i .moment < instant keys k
+  inside i u t v = let z = event-of f n keys count o i u t in split (z .at) (z .below) (z .moment) (decLt (z .at) k) (decLt k (z .at))
+    where
+      split : (x : ℕ) → x < count → momentAt keys x ≡ f i .moment → Dec (x < k) → Dec (k < x) → f i .moment < instant keys k
+      split x w g (yes y) d = omega (arith, passed f n keys count o x k y within)
+      split x w g (no y) (yes d) = absurd (omega (arith, o .rising k x d w, past (omega arith)))
+      split x w g (no y) (no d) = let r : x ≡ k = omega arith in absurd (omega (arith, ap (momentAt keys) r, past (omega arith)))
 
-  module _ (e : Entry) (small : 2 * e .start < 65536) (forward : e .start ≤ e .end) where
-    abbrev lo : ℕ
-    lo = 2 * e .start
+  -- what a removal in the call's time is
+  module _ (i : ℕ) (below : i < n) (t : removes f n e (f i) ≡ true) where
+    t3 : (on q (f i) && inCall e (f i .moment) && not (eqb (f i .process) (e .process))) ≡ true
+    t3 = and-0 (on q (f i) && inCall e (f i .moment) && not (eqb (f i .process) (e .process))) (takesTopmost (what (f i)) (before f n q (f i .moment))) t
 
-    abbrev hi : ℕ
-    hi = 2 * e .end + 1
+    t2 : (on q (f i) && inCall e (f i .moment)) ≡ true
+    t2 = and-0 (on q (f i) && inCall e (f i .moment)) (not (eqb (f i .process) (e .process))) t3
 
-    abbrev within : ℕ → Bool
-    within k = on (e .queue) (f k) && inCall e (f k .moment)
+    on-it : on q (f i) ≡ true
+    on-it = and-0 (on q (f i)) (inCall e (f i .moment)) t2
 
-    abbrev other : ℕ → Bool
-    other k = not (eqb (f k .process) (e .process))
+    in-it : inCall e (f i .moment) ≡ true
+    in-it = and-1 (on q (f i)) (inCall e (f i .moment)) t2
 
-    abbrev empty : Bool
-    empty = emptyWithin f n (e .queue) lo hi
+    lo : a ≤ f i .moment
+    lo = leb-true a (f i .moment) (and-0 (leb a (f i .moment)) (leb (f i .moment) b) in-it)
 
-    abbrev taken : Bool
-    taken = any (λ k. removes f n e (f k)) n
+    hi : f i .moment ≤ b
+    hi = leb-true (f i .moment) b (and-1 (leb a (f i .moment)) (leb (f i .moment) b) in-it)
 
-    from-in : (m : ℕ) → inCall e m ≡ true → lo ≤ m
-    from-in m h = leb-true lo m (and-0 (leb lo m) (leb m hi) h)
+    borne : bears (f i) ≡ true
+    borne = and-0 (bears (f i)) (eqb (f i .queue) q) on-it
 
-    to-in : (m : ℕ) → inCall e m ≡ true → m ≤ hi
-    to-in m h = leb-true m hi (and-1 (leb lo m) (leb m hi) h)
+    queue-is : f i .queue ≡ q
+    queue-is = eqb-true (f i .queue) q (and-1 (bears (f i)) (eqb (f i .queue) q) on-it)
 
-    empty-i : (x : ℕ) → lo ≤ x → x ≤ hi → isEmpty (before f n (e .queue) (suc x)) ≡ true → empty ≡ true
-    empty-i x a b h =
-        let p : ℕ → Bool = λ x. isEmpty (before f n (e .queue) (suc x)) in
-        let z = first-hit p lo (suc hi - lo) x a (omega arith) h in
-        lt-ltb (first p lo (suc hi - lo)) (suc hi) (omega arith)
+    not-me : not (eqb (f i .process) (e .process)) ≡ true
+    not-me = and-1 (on q (f i) && inCall e (f i .moment)) (not (eqb (f i .process) (e .process))) t3
 
-    from-notes : causedOf l v n e ≡ true → hasCause f n e ≡ true
-    from-notes h = or-e (emptyAtOf l v n (e .queue) lo) (any (asks l v (Cause e)) n) h
-        (λ s. or-l empty taken (empty-i lo (omega arith) (omega arith) (sym (empty-at (e .queue) lo small) ∙ s)))
-        (λ s. by (any-e (asks l v (Cause e)) n s))
-      where
-        by : Found (asks l v (Cause e)) n → hasCause f n e ≡ true
-        by z =
-            let k = z .at in
-            let w : within k ≡ true = and-0 (within k) (leavesEmpty (byteAt v k) || other k && same TopNode (what (f k))) (z .passes) in
-            let o : on (e .queue) (f k) ≡ true = and-0 (on (e .queue) (f k)) (inCall e (f k .moment)) w in
-            let c : inCall e (f k .moment) ≡ true = and-1 (on (e .queue) (f k)) (inCall e (f k .moment)) w in
-            or-e (leavesEmpty (byteAt v k)) (other k && same TopNode (what (f k))) (and-1 (within k) (leavesEmpty (byteAt v k) || other k && same TopNode (what (f k))) (z .passes))
-            (λ t. or-l empty taken
-            (empty-i (f k .moment) (from-in (f k .moment) c) (to-in (f k .moment) c) (sym (empty-noted (e .queue) (f k .moment) k (z .below) o refl) ∙ t)))
-            (λ t.
-            let top : TopNode ≡ what (f k) = same-true TopNode (what (f k)) (and-1 (other k) (same TopNode (what (f k))) t) in
-            or-r empty taken (any-i (λ k. removes f n e (f k)) n k (z .below) (and-i (and-i w (and-0 (other k) (same TopNode (what (f k))) t))
-            (sym (ap (λ (w : What). takesTopmost w (before f n (e .queue) (f k .moment))) top)))))
+    -- at the top: it is in the table
+    by-top : what (f i) ≡ TopNode → other ≡ true
+    by-top w =
+        let p = f i .process in
+        let g : takes f q p i ≡ true = and-i (and-i (ap (same TopNode) w) (eq-eqb (f i .queue) q queue-is)) (eq-eqb p p refl) in
+        let u = s .taken q p queue-low (fields i below .process) .above i below g (inside i below borne hi) in
+        any-i (λ p. not (eqb p (e .process)) && ltb a (getD took (8 * q + p) 0)) 8 p (fields i below .process) (and-i not-me (lt-ltb a (getD took (8 * q + p) 0) (omega (arith, lo))))
 
-    cause-i : (k : ℕ) → k < n → within k ≡ true → (leavesEmpty (byteAt v k) || other k && same TopNode (what (f k))) ≡ true → causedOf l v n e ≡ true
-    cause-i k u w t = or-r (emptyAtOf l v n (e .queue) lo) (any (asks l v (Cause e)) n) (any-i (asks l v (Cause e)) n k u (and-i w t))
+    -- at the bottom: it leaves the queue empty
+    by-bottom : what (f i) ≡ BottomNode → length (before f n q (f i .moment)) ≡ 1 → isEmpty (before f n q (suc (f i .moment))) ≡ true
+    by-bottom w one =
+        let z = event-of f n keys count o i below borne in
+        let c = own-is f n keys count o (z .at) (z .below) in
+        let c2 = now-is f n keys count o q (z .at) (z .below) in
+        let d : before f n q (suc (f i .moment)) ≡ applied (what (f i)) (f i .node) (before f n q (f i .moment)) =
+        ap (λ (x : ℕ). before f n q (suc x)) (sym (z .moment)) ∙ ap (λ (x : ℕ). before f n x (suc (momentAt keys (z .at)))) (sym queue-is ∙ ap (λ (x : ℕ). f x .queue) (sym (z .is)))
+        ∙ c ∙ ap (λ (x : ℕ). applied (what (f x)) (f x .node) (before f n (f x .queue) (instant keys (z .at)))) (z .is)
+        ∙ ap (λ (x : ℕ). applied (what (f i)) (f i .node) (before f n x (instant keys (z .at)))) queue-is
+        ∙ ap (λ (d : List ℕ). applied (what (f i)) (f i .node) d) (sym c2) ∙ ap (λ (x : ℕ). applied (what (f i)) (f i .node) (before f n q x)) (z .moment) in
+        ap isEmpty d ∙ ap (λ (x : What). isEmpty (applied x (f i .node) (before f n q (f i .moment)))) w ∙ last-one (before f n q (f i .moment)) one
 
-    to-notes : hasCause f n e ≡ true → causedOf l v n e ≡ true
-    to-notes h = or-e empty taken h
-        (λ s.
-        let p : ℕ → Bool = λ x. isEmpty (before f n (e .queue) (suc x)) in
-        let x = first p lo (suc hi - lo) in
-        let u : x < suc hi = ltb-true x (suc hi) s in
-        let g = first-ge p lo (suc hi - lo) in
-        let y : p x ≡ true = first-is p lo (suc hi - lo) (omega arith) in
-        let d : lo + (x - lo) ≡ x = omega arith in
-        at-instant x u g (emptied f n (e .queue) lo (x - lo) (ap p d ∙ y)))
-        (λ s. by-removal (any-e (λ k. removes f n e (f k)) n s))
-      where
-        at-instant : (x : ℕ) → x < suc hi → lo ≤ x → Emptied f n (e .queue) lo (lo + (x - lo)) → causedOf l v n e ≡ true
-        at-instant x u g (still y) = or-l (emptyAtOf l v n (e .queue) lo) (any (asks l v (Cause e)) n) (empty-at (e .queue) lo small ∙ y)
-        at-instant x u g (byEvent y a b i m) =
-            let s : At (e .queue) y = at-first (e .queue) y i in
-            let k = eventAt f n (e .queue) y in
-            let c : inCall e (f k .moment) ≡ true = and-i (le-leb lo (f k .moment) (omega (arith, s .moment))) (le-leb (f k .moment) hi (omega (arith, s .moment))) in
-            cause-i k i (and-i (s .here) c) (or-l (leavesEmpty (byteAt v k)) (other k && same TopNode (what (f k))) (empty-noted (e .queue) y k i (s .here) (s .moment) ∙ m))
+  -- from the code's test
+  to : 0 < h → since ≤ a → other ≡ false → hasCause f n e ≡ true → ⊥
+  to some le none t = or-e empty taken t
+      (λ y.
+      let p : ℕ → Bool = λ x. isEmpty (before f n q (suc x)) in
+      let x = first p a (suc b - a) in
+      let u : x < suc b = ltb-true x (suc b) y in
+      no-empty some le x (first-ge p a (suc b - a)) (omega arith) (first-is p a (suc b - a) (omega arith)))
+      (λ y. let z = any-e (λ i. removes f n e (f i)) n y in how (z .at) (z .below) (z .passes) (topmost (what (f (z .at))) (before f n q (f (z .at) .moment))
+      (and-1 (on q (f (z .at)) && inCall e (f (z .at) .moment) && not (eqb (f (z .at) .process) (e .process))) (takesTopmost (what (f (z .at))) (before f n q (f (z .at) .moment))) (z .passes))))
+    where
+      how : (i : ℕ) → i < n → removes f n e (f i) ≡ true → (what (f i) ≡ TopNode) ⊎ ((what (f i) ≡ BottomNode) × (length (before f n q (f i .moment)) ≡ 1)) → ⊥
+      how i u r (inl w) = contra other (by-top i u r w) none
+      how i u r (inr w) = no-empty some le (f i .moment) (lo i u r) (hi i u r) (by-bottom i u r (w .0) (w .1))
 
-        by-removal : Found (λ k. removes f n e (f k)) n → causedOf l v n e ≡ true
-        by-removal z =
-            let k = z .at in
-            let c = before f n (e .queue) (f k .moment) in
-            let g : (within k && other k) ≡ true = and-0 (within k && other k) (takesTopmost (what (f k)) c) (z .passes) in
-            let w : within k ≡ true = and-0 (within k) (other k) g in
-            let o : on (e .queue) (f k) ≡ true = and-0 (on (e .queue) (f k)) (inCall e (f k .moment)) w in
-            cause-i k (z .below) w (how k (z .below) o (and-1 (within k) (other k) g) (topmost (what (f k)) c (and-1 (within k && other k) (takesTopmost (what (f k)) c) (z .passes))))
-          where
-            how : (k : ℕ) → k < n → on (e .queue) (f k) ≡ true → other k ≡ true
-                → (what (f k) ≡ TopNode) ⊎ ((what (f k) ≡ BottomNode) × (length (before f n (e .queue) (f k .moment)) ≡ 1))
-                → (leavesEmpty (byteAt v k) || other k && same TopNode (what (f k))) ≡ true
-            how k u o t (inl top) = or-r (leavesEmpty (byteAt v k)) (other k && same TopNode (what (f k))) (and-i t (ap (same TopNode) top))
-            how k u o t (inr one) =
-                or-l (leavesEmpty (byteAt v k)) (other k && same TopNode (what (f k)))
-                (empty-noted (e .queue) (f k .moment) k u o refl ∙ ap isEmpty (after-event (e .queue) (f k .moment) k u o refl)
-                ∙ ap (λ (w : What). isEmpty (applied w (f k .node) (before f n (e .queue) (f k .moment)))) (one .0) ∙ last-one (before f n (e .queue) (f k .moment)) (one .1))
+  -- a take that the table shows
+  by-table : other ≡ true → hasCause f n e ≡ true
+  by-table t =
+      let z = any-e (λ p. not (eqb p (e .process)) && ltb a (getD took (8 * q + p) 0)) 8 t in
+      let p = z .at in
+      let g = and-0 (not (eqb p (e .process))) (ltb a (getD took (8 * q + p) 0)) (z .passes) in
+      let u = ltb-true a (getD took (8 * q + p) 0) (and-1 (not (eqb p (e .process))) (ltb a (getD took (8 * q + p) 0)) (z .passes)) in
+      let y = s .taken q p queue-low (z .below) .met a u in
+      let i = y .at in
+      let w2 = and-0 (takes f q p i && leb a (f i .moment)) (ltb (f i .moment) (instant keys k)) (y .passes) in
+      let m = ltb-true (f i .moment) (instant keys k) (and-1 (takes f q p i && leb a (f i .moment)) (ltb (f i .moment) (instant keys k)) (y .passes)) in
+      let w1 = and-0 (takes f q p i) (leb a (f i .moment)) w2 in
+      let v = and-1 (takes f q p i) (leb a (f i .moment)) w2 in
+      let w0 = and-0 (same TopNode (what (f i)) && eqb (f i .queue) q) (eqb (f i .process) p) w1 in
+      let r : f i .process ≡ p = eqb-true (f i .process) p (and-1 (same TopNode (what (f i)) && eqb (f i .queue) q) (eqb (f i .process) p) w1) in
+      let x : TopNode ≡ what (f i) = same-true TopNode (what (f i)) (and-0 (same TopNode (what (f i))) (eqb (f i .queue) q) w0) in
+      or-r empty taken (any-i (λ i. removes f n e (f i)) n i (y .below) (and-i (and-i (and-i
+      (and-i (ap bearsMoment (sym x)) (and-1 (same TopNode (what (f i))) (eqb (f i .queue) q) w0))
+      (and-i v (le-leb (f i .moment) b (omega arith))))
+      (ap (λ (y : ℕ). not (eqb y (e .process))) r ∙ g))
+      (sym (ap (λ (w : What). takesTopmost w (before f n q (f i .moment))) x))))
 
-    pub cause-is : causedOf l v n e ≡ hasCause f n e
-    cause-is = by-both (causedOf l v n e) (hasCause f n e) from-notes to-notes
+  from : (x y z : Bool) → ltb 0 h ≡ x → leb since a ≡ y → other ≡ z → (hasCause f n e ≡ true → ⊥) → (x && y && not z) ≡ true
+  from true true false u v w never = refl
+  from true true true u v w never = absurd (never (by-table w))
+  from true false z u v w never =
+      let g = leb-false since a v in
+      let d : suc (since - 1) ≡ since = omega arith in
+      absurd (never (empty-i (since - 1) (omega arith) (omega (arith, sh .early)) (ap (λ (x : ℕ). isEmpty (before f n q x)) d ∙ sh .empty)))
+  from false y z u v w never =
+      let g = ltb-false 0 h u in
+      absurd (never (empty-i b (omega arith) (omega arith) (ap isEmpty (until (suc b) (omega arith) (omega arith)) ∙ empty-of (before f n q (instant keys k)) (sym (sh .is) ∙ omega arith))))
+
+  pub cause-is : (ltb 0 h && leb since a && not other) ≡ not (hasCause f n e)
+  cause-is = by-both (ltb 0 h && leb since a && not other) (not (hasCause f n e))
+      (λ t. not-i (hasCause f n e) (to (ltb-true 0 h (and-0 (ltb 0 h) (leb since a) (and-0 (ltb 0 h && leb since a) (not other) t)))
+      (leb-true since a (and-1 (ltb 0 h) (leb since a) (and-0 (ltb 0 h && leb since a) (not other) t))) (not-so other (not-e other (and-1 (ltb 0 h && leb since a) (not other) t)))))
+      (λ t. from (ltb 0 h) (leb since a) other refl refl refl (not-e (hasCause f n e) t))
+
+pub moved-on : (keys : List ℕ) (k b : ℕ) → momentAt keys k ≤ b → instant keys (k + 1) ≤ b + 1
+moved-on keys k b h = let e : k + 1 ≡ suc k = omega arith in rw e (omega arith)
+
+module _ (f : ℕ → Entry) (n : ℕ) (keys : List ℕ) (count : ℕ) (cl : Clean f n keys count) where
+  -- the moments passed lie before the ends of all entries that are left
+  abbrev pub Passed : ℕ → ℕ → Type 0
+  Passed k j = (x : ℕ) → j ≤ x → x < n → instant keys k ≤ 2 * f x .end + 2
+
+  pub passed-next : (e : Entry) (k j : ℕ) → e ≡ f j → j < n → momentAt keys k ≤ 2 * e .end + 1 → Passed (k + 1) j
+  passed-next e k j g u h x v w = split (ℕ-discrete x j)
+    where
+      last : momentAt keys k ≤ 2 * f j .end + 1
+      last = omega (arith, ap (λ (y : Entry). y .end) g)
+
+      split : Dec (x ≡ j) → instant keys (k + 1) ≤ 2 * f x .end + 2
+      split (yes d) = omega (arith, moved-on keys k (2 * f j .end + 1) last, ap (λ (y : ℕ). f y .end) d)
+      split (no d) = omega (arith, moved-on keys k (2 * f j .end + 1) last, cl .ends j x (omega arith) w)
+
+  pub nil-low : (e : Entry) (j : ℕ) → e ≡ f j → j < n → e .queue < 8
+  nil-low e j g u = omega (arith, ap (λ (y : Entry). y .queue) g, cl .fields j u .queue)
+
+  not-due : (k b : ℕ) → (ltb k count && leb (momentAt keys k) b) ≡ false → k < count → b < momentAt keys k
+  not-due k b h u = leb-false (momentAt keys k) b (sym (ap (λ (t : Bool). t && leb (momentAt keys k) b) (lt-ltb k count u)) ∙ h)
+
+  pub query-told : (k : ℕ) → k ≤ count → (held filled took : List ℕ) → Shelves f n keys k held filled took → (j : ℕ) → j < n → Passed k j → (e : Entry) → e ≡ f j
+      → (ltb k count && leb (momentAt keys k) (2 * e .end + 1)) ≡ false → same TopNil (what e) ≡ true → uncausedBy held filled took e ≡ breaks5 f n j
+  query-told k within held filled took s j u pass e g due nil =
+      cause-is f n keys count (cl .ordered) (cl .fields) k within held filled took s e (nil-low e j g u)
+      (omega (arith, ap (λ (y : Entry). y .start) g, ap (λ (y : Entry). y .end) g, cl .fields j u .start))
+      (not-due k (2 * e .end + 1) due) (omega (arith, ap (λ (y : Entry). y .end) g, pass j (omega arith) u))
+      ∙ sym (ap (λ (t : Bool). t && not (hasCause f n e)) nil)
+      ∙ ap (λ (y : Entry). same TopNil (what y) && not (hasCause f n y)) g
+
+  pub skip-told : (j : ℕ) (e : Entry) → e ≡ f j → same TopNil (what e) ≡ false → breaks5 f n j ≡ false
+  skip-told j e g h = ap (λ (t : Bool). t && not (hasCause f n (f j))) (sym (ap (λ (y : Entry). same TopNil (what y)) g) ∙ h)

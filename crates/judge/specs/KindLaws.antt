@@ -61,3 +61,29 @@ took-top-is = by-kind (λ t u v. ((not t && not u) && v) ≡ same TopNode (did t
     rest true false = refl
     rest false true = refl
     rest false false = refl
+
+pub full-is : (k r : ℕ) → (eqb k push && not (eqb r done)) ≡ same Full (whatOf k r)
+full-is = by-kind (λ t u v. (t && not v) ≡ same Full (did t u v)) first rest
+  where
+    first : (v : Bool) → (true && not v) ≡ same Full (did true false v)
+    first true = refl
+    first false = refl
+
+    rest : (u v : Bool) → false ≡ same Full (did false u v)
+    rest true true = refl
+    rest true false = refl
+    rest false true = refl
+    rest false false = refl
+
+pub top-nil-is : (k r : ℕ) → ((not (eqb k push) && not (eqb k bottomPop)) && not (eqb r done)) ≡ same TopNil (whatOf k r)
+top-nil-is = by-kind (λ t u v. ((not t && not u) && not v) ≡ same TopNil (did t u v)) first rest
+  where
+    first : (v : Bool) → false ≡ same TopNil (did true false v)
+    first true = refl
+    first false = refl
+
+    rest : (u v : Bool) → (not u && not v) ≡ same TopNil (did false u v)
+    rest true true = refl
+    rest true false = refl
+    rest false true = refl
+    rest false false = refl

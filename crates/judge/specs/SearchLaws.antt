@@ -1,6 +1,6 @@
 -- What the results of the searches say, and how a loop comes by them.
 use mathlib.Core.Path.{_≡_, refl, sym, ap, _∙_}
-use mathlib.Core.Bool.{Bool, true, false, cond, _&&_}
+use mathlib.Core.Bool.{Bool, true, false, cond, _&&_, _||_}
 use Prim.Native.Nat.{ℕ, zero, suc, _+_, _-_, _≤_, _<_}
 use native.Mathlib.Numerals.{add-one}
 use native.Mathlib.Omega.{arith}
@@ -8,17 +8,9 @@ use native.Mathlib.Decide.{ℕ-discrete}
 use borrow.Author.Tests.{lt-ltb, le-ltb, ltb-true, ltb-false}
 use lib.Dec.{ltb}
 use Rattle.judge.specs.Search.{first, any, count, lowest}
-use Rattle.judge.specs.BoolLaws.{contra, not-so}
+use Rattle.judge.specs.BoolLaws.{contra, not-so, or-l, or-r, or-e, by-both}
 
 -- the first
-pub first-le : (p : ℕ → Bool) (i k : ℕ) → first p i k ≤ i + k
-first-le p i zero = omega arith
-first-le p i (suc k) = step (p i) (first-le p (suc i) k)
-  where
-    step : (t : Bool) → first p (suc i) k ≤ suc i + k → cond t i (first p (suc i) k) ≤ i + suc k
-    step true h = omega arith
-    step false h = omega arith
-
 pub first-is : (p : ℕ → Bool) (i k : ℕ) → first p i k < i + k → p (first p i k) ≡ true
 first-is p i zero h = absurd (omega arith)
 first-is p i (suc k) h = step (p i) refl h (first-is p (suc i) k)
@@ -40,10 +32,6 @@ first-hit p i (suc k) j a b e = step (p i) refl (ℕ-discrete i j) (first-hit p 
 pub first-none : (p : ℕ → Bool) (i k : ℕ) → ((j : ℕ) → i ≤ j → j < i + k → p j ≡ false) → first p i k ≡ i + k
 first-none p i zero h = omega arith
 first-none p i (suc k) h = rw (h i (omega arith) (omega arith)) (omega (arith, first-none p (suc i) k (λ j a b. h j (omega arith) (omega arith))))
-
-pub first-cong : (p r : ℕ → Bool) (i k : ℕ) → ((j : ℕ) → i ≤ j → j < i + k → p j ≡ r j) → first p i k ≡ first r i k
-first-cong p r i zero h = refl
-first-cong p r i (suc k) h = rw (h i (omega arith) (omega arith), first-cong p r (suc i) k (λ j a b. h j (omega arith) (omega arith)))
 
 -- the lowest
 pub record Hit (p : ℕ → Bool) (key : ℕ → ℕ) (n x : ℕ) : Type 0 where
@@ -75,7 +63,7 @@ lowest-le p key (suc n) i h e = step (p n) (ltb (key n) (lowest p key n)) refl r
     step false u a b (yes q) r = contra (p i) e (ap p q ∙ a)
     step false u a b (no q) r = r (omega arith) e
 
--- a count that has one more
+-- a count over fewer
 pub count-mono : (p r : ℕ → Bool) (n : ℕ) → ((i : ℕ) → p i ≡ true → r i ≡ true) → count p n ≤ count r n
 count-mono p r zero h = omega arith
 count-mono p r (suc n) h = step (p n) (r n) refl refl (count-mono p r n h)
@@ -85,20 +73,6 @@ count-mono p r (suc n) h = step (p n) (r n) refl refl (count-mono p r n h)
     step true false a b k = contra (r n) (h n a) b
     step false true a b k = omega arith
     step false false a b k = k
-
-pub count-more : (p r : ℕ → Bool) (n j : ℕ) → ((i : ℕ) → p i ≡ true → r i ≡ true) → j < n → p j ≡ false → r j ≡ true → count p n < count r n
-count-more p r zero j h k a b = absurd (omega arith)
-count-more p r (suc n) j h k a b = step (p n) (r n) refl refl (ℕ-discrete j n) (count-mono p r n h) (λ d. count-more p r n j h d a b)
-  where
-    step : (t u : Bool) → p n ≡ t → r n ≡ u → Dec (j ≡ n) → count p n ≤ count r n → (j < n → count p n < count r n)
-        → cond t (count p n + 1) (count p n) < cond u (count r n + 1) (count r n)
-    step true u x y (yes q) m i = contra (p j) (ap p q ∙ x) a
-    step false true x y (yes q) m i = omega arith
-    step false false x y (yes q) m i = contra (r j) b (ap r q ∙ y)
-    step true true x y (no q) m i = omega (arith, i (omega arith))
-    step true false x y (no q) m i = contra (r n) (h n x) y
-    step false true x y (no q) m i = omega (arith, i (omega arith))
-    step false false x y (no q) m i = i (omega arith)
 
 pub record Found (p : ℕ → Bool) (n : ℕ) : Type 0 where
   pub at : ℕ
@@ -126,10 +100,6 @@ none-passes p n h j u = not-so (p j) (λ e. let k = first-hit p 0 n j (omega ari
 pub any-none : (p : ℕ → Bool) (n : ℕ) → any p n ≡ false → (j : ℕ) → j < n → p j ≡ false
 any-none p n h = none-passes p n (ltb-false (first p 0 n) n h)
 
-pub lowest-cong : (p r : ℕ → Bool) (key kex : ℕ → ℕ) (n : ℕ) → ((j : ℕ) → j < n → p j ≡ r j) → ((j : ℕ) → j < n → key j ≡ kex j) → lowest p key n ≡ lowest r kex n
-lowest-cong p r key kex zero h k = refl
-lowest-cong p r key kex (suc n) h k = rw (lowest-cong p r key kex n (λ j u. h j (omega arith)) (λ j u. k j (omega arith)), h n (omega arith), k n (omega arith))
-
 pub none : (p : ℕ → Bool) (n : ℕ) → ((j : ℕ) → j < n → p j ≡ false) → n ≤ first p 0 n
 none p n h = omega (arith, first-none p 0 n (λ j a b. h j (omega arith)))
 
@@ -146,13 +116,9 @@ first-found p i n h e = let k : n - i ≡ suc (n - (i + 1)) = omega arith in rw 
 pub first-end : (p : ℕ → Bool) (i n : ℕ) → n ≤ i → i ≡ first p i (n - i)
 first-end p i n h = let k : n - i ≡ 0 = omega arith in rw k
 
--- the loops of `count` and `lowest`: what is done is the whole of a smaller one
+-- the loop of `count`: what is done is the whole of a smaller one
 pub count-next : (p : ℕ → Bool) (i c d : ℕ) (t : Bool) → t ≡ p i → c ≡ count p i → d ≡ cond t (c + 1) c → d ≡ count p (i + 1)
 count-next p i c d t e₁ e₂ e₃ = rw (add-one, e₃, e₁, e₂)
-
-pub lowest-next : (p : ℕ → Bool) (key : ℕ → ℕ) (i low low′ k : ℕ) (t : Bool) → t ≡ p i → k ≡ key i → low ≡ lowest p key i
-    → low′ ≡ cond (t && ltb k low) k low → low′ ≡ lowest p key (i + 1)
-lowest-next p key i low low′ k t e₁ e₂ e₃ e₄ = rw (add-one, e₄, e₁, e₂, e₃)
 
 pub count-le : (p : ℕ → Bool) (n : ℕ) → count p n ≤ n
 count-le p zero = omega arith
@@ -165,5 +131,19 @@ count-le p (suc n) = step (p n) (count-le p n)
 pub first-start : (p : ℕ → Bool) (n : ℕ) → first p 0 (n - 0) ≡ first p 0 n
 first-start p n = let k : n - 0 ≡ n = omega arith in rw k
 
-pub at-end : (F : ℕ → ℕ) (i n x : ℕ) → i ≤ n → n ≤ i → x ≡ F i → x ≡ F n
+pub at-end : {A : Type 0} (F : ℕ → A) (i n : ℕ) (x : A) → i ≤ n → n ≤ i → x ≡ F i → x ≡ F n
 at-end F i n x h k e = let d : i ≡ n = omega arith in e ∙ ap F d
+
+-- the loop of `any`, which leaves nowhere: what is done
+pub any-next : (p : ℕ → Bool) (i : ℕ) (t : Bool) → t ≡ any p i → (t || p i) ≡ any p (i + 1)
+any-next p i t e = by-both (t || p i) (any p (i + 1)) to (λ h. from (any-e p (i + 1) h))
+  where
+    to : (t || p i) ≡ true → any p (i + 1) ≡ true
+    to h = or-e t (p i) h (λ a. let z = any-e p i (sym e ∙ a) in any-i p (i + 1) (z .at) (omega (arith, z .below)) (z .passes)) (λ a. any-i p (i + 1) i (omega arith) a)
+
+    from : Found p (i + 1) → (t || p i) ≡ true
+    from z = split (ℕ-discrete (z .at) i)
+      where
+        split : Dec (z .at ≡ i) → (t || p i) ≡ true
+        split (yes d) = or-r t (p i) (sym (ap p d) ∙ z .passes)
+        split (no d) = or-l t (p i) (e ∙ any-i p i (z .at) (omega (arith, z .below)) (z .passes))

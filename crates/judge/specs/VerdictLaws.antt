@@ -1,6 +1,6 @@
 -- The rules one after the other, and the head before them, as a chain of early answers takes them.
-use mathlib.Core.Path.{_≡_, ap}
-use mathlib.Core.Bool.{Bool, true, false, _&&_, not}
+use mathlib.Core.Path.{_≡_}
+use mathlib.Core.Bool.{Bool, true, false, _&&_}
 use mathlib.Core.List.{List}
 use Prim.Native.Nat.{ℕ, _+_, _*_, _≤_, _<_}
 use native.Mathlib.Omega.{arith}
@@ -8,27 +8,11 @@ use borrow.Author.Tests.{lt-ltb, le-ltb, leb-true}
 use lib.Dec.{leb, eqb}
 use lib.ListN.{length}
 use Rattle.log.specs.declared.Entry.{Entry}
-use Rattle.log.specs.declared.What.the-variants.{TopNil}
-use Rattle.log.specs.Numbers.{what, same}
 use Rattle.log.specs.Decode.{sectionCountOf, processesOf, slotsOf, entryCountOf, entryAt}
 use Rattle.log.specs.Encode.{sectionCount}
 use Rattle.judge.specs.declared.Verdict.{Verdict}
-use Rattle.judge.specs.declared.Rule.the-variants.{Nil}
-use Rattle.judge.specs.Search.{first}
-use Rattle.judge.specs.Rules.{breaks5}
 use Rattle.judge.specs.Judge.{says, first1, first2, first3, first4, first5, first6, rulesOf, headRight, judgeOf}
-use Rattle.judge.specs.Questions.{Distinct, brokenOf}
-use Rattle.judge.specs.BoolLaws.{and-1}
-use Rattle.judge.specs.SearchLaws.{first-cong}
-use Rattle.judge.specs.NoteLaws.{AllNoted, fields-of}
-use Rattle.judge.specs.CauseLaws.{cause-is}
-
-pub rule5-is : (l : List ℕ) (n P C : ℕ) (v : List ℕ) → Distinct (entryAt l) n → AllNoted l n v → n ≤ first1 (entryAt l) n P
-    → first (brokenOf l v n C Nil) 0 n ≡ first5 (entryAt l) n
-rule5-is l n P C v dis there h =
-    first-cong (brokenOf l v n C Nil) (breaks5 (entryAt l) n) 0 n (λ j a u.
-    let z = fields-of (entryAt l) n P h j (omega arith) in
-    ap (λ (b : Bool). same TopNil (what (entryAt l j)) && not b) (cause-is l n v dis there (entryAt l j) (omega (arith, z .start, z .end)) (z .start)))
+use Rattle.judge.specs.BoolLaws.{and-0, and-1}
 
 pub pass : (i j n : ℕ) → i ≡ j → n ≤ i → n ≤ j
 pass i j n e h = omega arith
@@ -66,8 +50,14 @@ module _ (f : ℕ → Entry) (n P C : ℕ) (r : Verdict) where
 abbrev pub headOf : List ℕ → Bool
 headOf l = headRight (sectionCountOf l) (processesOf l) (slotsOf l) (entryCountOf l)
 
-pub few : (m P C n : ℕ) → headRight m P C n ≡ true → n ≤ 256
-few m P C n h = leb-true n 256 (and-1 (eqb m sectionCount && leb 1 P && leb P 8 && leb 1 C && leb C 64) (leb n 256) h)
+pub few : (m P C n : ℕ) → headRight m P C n ≡ true → (n ≤ 256) × (P ≤ 8)
+few m P C n h =
+    let to-slots = and-0 (eqb m sectionCount && leb 1 P && leb P 8 && leb 1 C && leb C 64) (leb n 256) h in
+    let to-one = and-0 (eqb m sectionCount && leb 1 P && leb P 8 && leb 1 C) (leb C 64) to-slots in
+    let to-processes = and-0 (eqb m sectionCount && leb 1 P && leb P 8) (leb 1 C) to-one in (
+      leb-true n 256 (and-1 (eqb m sectionCount && leb 1 P && leb P 8 && leb 1 C && leb C 64) (leb n 256) h),
+      leb-true P 8 (and-1 (eqb m sectionCount && leb 1 P) (leb P 8) to-processes),
+    )
 
 -- the head's numbers as they were read
 module _ (l : List ℕ) (m P C n : ℕ) where

@@ -90,7 +90,8 @@ returns-4 c =
 rules-requires : tie.Need-rules-requires
 rules-requires c κs =
     let k = c .before .before .before in
-    few (section-at k) (processes-at k) (slots-at k) (k .number-at .result) (not-false _ (c .before .before .if2 .left))
+    let f = few (section-at k) (processes-at k) (slots-at k) (k .number-at .result) (not-false _ (c .before .before .if2 .left)) in
+    (f .0, f .1, omega (arith, c .before .if3 .left, c .if4 .left))
 
 returns-5 : tie.Need-returns-5
 returns-5 c =

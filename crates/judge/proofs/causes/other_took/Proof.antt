@@ -1,0 +1,66 @@
+-- `judge::causes::other_took` meets its contract. The loop keeps: whether one of the processes passed took so.
+use mathlib.Core.Path.{_≡_, refl}
+use mathlib.Core.Bool.{_&&_, not}
+use Prim.Native.Nat.{_+_, _-_, _*_, _≤_}
+use borrow.Author.Needs.{needs}
+use lib.Dec.{eqb, ltb}
+use lib.ListN.{getD}
+use Rattle.judge.specs.Search.{any}
+use Rattle.judge.specs.SearchLaws.{any-next, at-end}
+use Rattle.judge.proofs.causes.other_took.Statement.{statement}
+use Rattle.judge.proofs.causes.other_took.Tie as tie
+
+abbrev Inv-loop : tie.InvT-loop
+Inv-loop took q process from hit₀ p₀ hit p = (p ≤ 8) × (hit ≡ any (λ x. not (eqb x process) && ltb from (getD took (8 * q + x) 0)) p)
+
+abbrev μ-loop : tie.MeasureT-loop
+μ-loop took q process from hit₀ p₀ hit p = 8 - p
+
+loop-holds : tie.Need-loop-holds Inv-loop μ-loop
+loop-holds c = (search needs, refl)
+
+mul-at : tie.Need-mul-at Inv-loop μ-loop
+mul-at c = search needs
+
+add-at : tie.Need-add-at Inv-loop μ-loop
+add-at c = search needs
+
+mul-x : tie.Need-mul-x Inv-loop μ-loop
+mul-x c = search needs
+
+element-copy-out-x : tie.Need-element-copy-out-x Inv-loop μ-loop
+element-copy-out-x c = search needs
+
+add-p : tie.Need-add-p Inv-loop μ-loop
+add-p c = search needs
+
+loop-less : tie.Need-loop-less Inv-loop μ-loop
+loop-less c = search needs
+
+loop-again : tie.Need-loop-again Inv-loop μ-loop
+loop-again c =
+    let a = c .before .before .before .args in
+    let l = c .before .before .loop in
+    (search needs, any-next (λ x. not (eqb x (a .process)) && ltb (a .from) (getD (a .took .now) (8 * a .q + x) 0)) (l .p) (l .hit) (l .inv .1))
+
+returns : tie.Need-returns Inv-loop μ-loop
+returns c =
+    let a = c .before .before .args in
+    let l = c .before .loop in
+    at-end (any (λ x. not (eqb x (a .process)) && ltb (a .from) (getD (a .took .now) (8 * a .q + x) 0))) (l .p) 8 (l .hit) (l .inv .0) (c .loop-test .left) (l .inv .1)
+
+pub other-took-spec : {M : Type 1} → statement M
+other-took-spec =
+    tie.close
+    (tie.spec
+    Inv-loop
+    μ-loop
+    loop-holds
+    mul-at
+    add-at
+    mul-x
+    element-copy-out-x
+    add-p
+    loop-less
+    loop-again
+    returns)

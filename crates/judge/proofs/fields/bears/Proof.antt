@@ -1,0 +1,10 @@
+-- `judge::fields::bears` meets its contract.
+use Rattle.judge.specs.KindLaws.{bears-is}
+use Rattle.judge.proofs.fields.bears.Statement.{statement}
+use Rattle.judge.proofs.fields.bears.Tie as tie
+
+returns : tie.Need-returns
+returns c = bears-is (c .before .before .args .e .kind) (c .before .before .args .e .result)
+
+pub bears-spec : {M : Type 1} → statement M
+bears-spec = tie.close (tie.spec returns)

@@ -1,0 +1,16 @@
+-- `judge::replay::more` meets its contract. The test of the code is that of the definition.
+use borrow.Author.Needs.{needs}
+use Rattle.judge.proofs.replay.more.Statement.{statement}
+use Rattle.judge.proofs.replay.more.Tie as tie
+
+add-result : tie.Need-add-result
+add-result c = search needs
+
+returns : tie.Need-returns
+returns c = rw (c .if1 .taken)
+
+returns-2 : tie.Need-returns-2
+returns-2 c = rw (c .if1 .left)
+
+pub more-spec : {M : Type 1} → statement M
+more-spec = tie.close (tie.spec add-result returns returns-2)

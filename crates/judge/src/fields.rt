@@ -1,0 +1,86 @@
+// Rule 1, and what an entry says of its call by its kind and result alone.
+ghost use mathlib.Core.Path.{_≡_};
+ghost use Prim.Native.Nat.{_≤_};
+ghost use Rattle.log.specs.Numbers.{what as whatIs, same};
+ghost use Rattle.log.specs.Decode.{entryAt};
+ghost use Rattle.judge.specs.Contents.{bears as bearsIs};
+ghost use Rattle.judge.specs.Rules.{keeps1};
+ghost use Rattle.judge.specs.Judge.{first1};
+ghost use Rattle.judge.specs.Order.{Whole};
+use crate::read::entry;
+use log::Entry;
+use log::What;
+
+// The last step at which a call may end, by rule 1.
+const LAST_END: u16 = 32766;
+
+// Rule 1, phrase by phrase.
+fn keeps_fields(p: u8, e: Entry) -> bool
+    ensures { λ r. ⌜ r ≡ keeps1 p e ⌝ }
+{
+    (e.process < p)
+        & (e.queue < p)
+        & ((log::PUSH <= e.kind) & (e.kind <= log::TOP_POP))
+        & (e.result <= log::FULL)
+        & (!((e.kind == log::PUSH) | (e.kind == log::BOTTOM_POP)) | (e.process == e.queue))
+        & (!(e.result == log::FULL) | (e.kind == log::PUSH))
+        & (!(e.result == log::NIL) | !(e.kind == log::PUSH))
+        & ((e.node == 0) == (e.result == log::NIL))
+        & (e.start <= e.end)
+        & (e.end <= LAST_END)
+}
+
+// What the entry says the call did.
+pub(crate) fn what(e: Entry) -> What
+    ensures { λ r. ⌜ r ≡ whatIs e ⌝ }
+{
+    log::what_of(e.kind, e.result)
+}
+
+// Whether the call bears a moment, was a done push, a refused one, gave a node at the top, gave none there.
+pub(crate) fn bears(e: Entry) -> bool
+    ensures { λ r. ⌜ r ≡ bearsIs e ⌝ }
+{
+    (e.kind == log::BOTTOM_POP) | (e.result == log::DONE)
+}
+
+pub(crate) fn pushed(e: Entry) -> bool
+    ensures { λ r. ⌜ r ≡ same What.Pushed (whatIs e) ⌝ }
+{
+    (e.kind == log::PUSH) & (e.result == log::DONE)
+}
+
+pub(crate) fn full(e: Entry) -> bool
+    ensures { λ r. ⌜ r ≡ same What.Full (whatIs e) ⌝ }
+{
+    (e.kind == log::PUSH) & !(e.result == log::DONE)
+}
+
+pub(crate) fn took_top(e: Entry) -> bool
+    ensures { λ r. ⌜ r ≡ same What.TopNode (whatIs e) ⌝ }
+{
+    !(e.kind == log::PUSH) & !(e.kind == log::BOTTOM_POP) & (e.result == log::DONE)
+}
+
+pub(crate) fn top_nil(e: Entry) -> bool
+    ensures { λ r. ⌜ r ≡ same What.TopNil (whatIs e) ⌝ }
+{
+    !(e.kind == log::PUSH) & !(e.kind == log::BOTTOM_POP) & !(e.result == log::DONE)
+}
+
+// The first entry that breaks rule 1, or n.
+pub(crate) fn first_wrong(log: &[u8], n: usize, p: u8) -> usize
+    requires { ⌜ (n ≤ 256) × Whole (now log) n ⌝ }
+    ensures { λ r. ⌜ r ≡ first1 (entryAt (now (log .entry))) n p ⌝ }
+{
+    let mut i: usize = 0;
+    while i < n {
+        let e = entry(log, i);
+        let right = keeps_fields(p, e);
+        if !right {
+            return i;
+        }
+        i = i + 1;
+    }
+    i
+}

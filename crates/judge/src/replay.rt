@@ -1,0 +1,147 @@
+// Rule 4: all queues at once, by rising moments. Queue q's nodes lie from lo[q], the top, up to hi[q], in the q-th row of 256.
+ghost use mathlib.Core.Path.{_≡_};
+ghost use mathlib.Core.Bool.{cond};
+ghost use Prim.Native.Nat.{_+_, _^_, _≤_, _<_};
+ghost use lib.Dec.{eqb};
+ghost use lib.ListN.{getD, length};
+ghost use lib.Seq.{slice};
+ghost use Rattle.log.specs.Decode.{entryAt};
+ghost use Rattle.judge.specs.Search.{any};
+ghost use Rattle.judge.specs.Rules.{lawful as lawfulIs};
+ghost use Rattle.judge.specs.Judge.{first4};
+ghost use Rattle.judge.specs.Order.{Fields, Ordered, Whole};
+ghost use Rattle.judge.specs.Replay.{loAfter, hiAfter};
+use crate::fields::pushed;
+use crate::fields::what;
+use crate::read::entry;
+use log::What;
+
+// Where a queue's nodes begin and end.
+struct Ends {
+    lo: usize,
+    hi: usize,
+}
+
+// Whether a node is among the first of those that were pushed. It looks at all of them, without a test to leave, so that many are compared at once.
+fn added_in(added: &[u16; 256], count: usize, node: u16) -> bool
+    requires { ⌜ count ≤ 256 ⌝ }
+    ensures { λ r. ⌜ r ≡ any (λ i. eqb (getD (now (added .entry)) i 0) node) count ⌝ }
+{
+    let mut hit = false;
+    let mut i: usize = 0;
+    while i < count {
+        let x = added[i];
+        hit = hit | (x == node);
+        i = i + 1;
+    }
+    hit
+}
+
+// Whether a call is lawful on a queue, by rule 4; fresh tells a push whether its node is.
+fn lawful(nodes: &[u16], lo: usize, hi: usize, did: What, node: u16, fresh: bool) -> bool
+    requires { ⌜ hi ≤ length (now nodes) ⌝ }
+    ensures { λ r. ⌜ r ≡ lawfulIs fresh did node (slice lo hi (now (nodes .entry))) ⌝ }
+{
+    match did {
+        What::Pushed => fresh,
+        What::Full => true,
+        What::BottomNode => {
+            if hi <= lo {
+                return false;
+            }
+            let below = hi - 1;
+            let bottom = nodes[below];
+            bottom == node
+        }
+        What::BottomNil => hi <= lo,
+        What::TopNode => {
+            if hi <= lo {
+                return false;
+            }
+            let top = nodes[lo];
+            top == node
+        }
+        What::TopNil => true,
+    }
+}
+
+// What a lawful call makes of its queue's ends.
+fn moved(lo: usize, hi: usize, did: What) -> Ends
+    requires { ⌜ (lo ≤ hi) × (hi < 2 ^ 32) ⌝ }
+    ensures { λ r. ⌜ (r .lo ≡ loAfter did lo hi) × (r .hi ≡ hiAfter did lo hi) ⌝ }
+{
+    match did {
+        What::Pushed => {
+            let above = hi + 1;
+            Ends { lo: lo, hi: above }
+        }
+        What::Full => Ends { lo: lo, hi: hi },
+        What::BottomNode => {
+            if hi <= lo {
+                return Ends { lo: lo, hi: hi };
+            }
+            let below = hi - 1;
+            Ends { lo: lo, hi: below }
+        }
+        What::BottomNil => Ends { lo: lo, hi: hi },
+        What::TopNode => {
+            if hi <= lo {
+                return Ends { lo: lo, hi: hi };
+            }
+            let next = lo + 1;
+            Ends { lo: next, hi: hi }
+        }
+        What::TopNil => Ends { lo: lo, hi: hi },
+    }
+}
+
+// One more where it counts; none where it does not.
+pub(crate) fn more(h: bool, k: usize) -> usize
+    requires { ⌜ k + 1 < 2 ^ 64 ⌝ }
+    ensures { λ r. ⌜ r ≡ cond h (k + 1) k ⌝ }
+{
+    if h { k + 1 } else { k }
+}
+
+fn only(h: bool, k: usize) -> usize
+    ensures { λ r. ⌜ r ≡ cond h k 0 ⌝ }
+{
+    if h { k } else { 0 }
+}
+
+// The entry that breaks rule 4, the first by moment, or n. The node is put above each queue's bottom by every call; only a push then moves the bottom over it.
+pub(crate) fn first_unlawful(log: &[u8], n: usize, keys: &[usize; 256], count: usize) -> usize
+    requires { ⌜ (n ≤ 256) × Fields (entryAt (now log)) n × Ordered (entryAt (now log)) n (now keys) count × Whole (now log) n ⌝ }
+    ensures { λ r. ⌜ r ≡ first4 (entryAt (now (log .entry))) n ⌝ }
+{
+    let mut nodes: [u16; 2048] = [0; 2048];
+    let mut lo: [usize; 8] = [0, 256, 512, 768, 1024, 1280, 1536, 1792];
+    let mut hi: [usize; 8] = [0, 256, 512, 768, 1024, 1280, 1536, 1792];
+    let mut added: [u16; 256] = [0; 256];
+    let mut c: usize = 0;
+    let mut k: usize = 0;
+    while k < count {
+        let key = keys[k];
+        let j = key % 256;
+        let e = entry(log, j);
+        let q = e.queue as usize;
+        let node = e.node;
+        let did = what(e);
+        let push = pushed(e);
+        let l = lo[q];
+        let h = hi[q];
+        let old = added_in(&added, only(push, c), node);
+        let ok = lawful(&nodes, l, h, did, node, !old);
+        if !ok {
+            return j;
+        }
+        let ends = moved(l, h, did);
+        nodes[h] = node;
+        lo[q] = ends.lo;
+        hi[q] = ends.hi;
+        added[c] = node;
+        c = more(push, c);
+        k = k + 1;
+    }
+    n
+}
