@@ -1,11 +1,12 @@
 -- A log, and its bytes in document 01's order: section 1, the number of entries, the entries.
-use Prim.Native.Nat.{ℕ, zero, suc, _+_, _/_, _%_, _≤_, _<_}
-use mathlib.Core.Bool.{cond}
+use Prim.Native.Nat.{ℕ, _≤_}
+use mathlib.Core.Path.{_≡_}
 use mathlib.Core.List.{List, [], _∷_, _++_}
-use lib.Dec.{leb}
-use lib.ListN.{length, take, drop}
+use lib.ListN.{length}
+use Rattle.base.specs.Bytes.{Byte, Two, pair}
+use Rattle.base.specs.Lists.{listOf, All}
 use Rattle.log.specs.declared.Entry.{Entry}
-use Rattle.log.specs.Decode.{processesOf, slotsOf, entryCountOf, entryAt}
+use Rattle.log.specs.Decode.{logLength, sectionCountOf, processesOf, slotsOf, entryCountOf, entryAt}
 
 -- P processes, C slots, and the entries
 pub record Log : Type 0 where
@@ -17,15 +18,20 @@ pub record Log : Type 0 where
 abbrev pub sectionCount : ℕ
 sectionCount = 2
 
+-- the most entries, and the length of a log that has them
+abbrev pub mostEntries : ℕ
+mostEntries = 256
+
+abbrev pub longestLog : ℕ
+longestLog = logLength mostEntries
+
 -- a byte 2, then P, C; two bytes, the number of entries
 abbrev pub headBytes : ℕ → ℕ → ℕ → List ℕ
-headBytes P C n = sectionCount ∷ P ∷ C ∷ n / 256 ∷ n % 256 ∷ []
+headBytes P C n = sectionCount ∷ P ∷ C ∷ pair n
 
 -- process, queue, kind, result, node, start, end, moment; each of the last four takes two bytes
 abbrev pub entryBytes : Entry → List ℕ
-entryBytes e =
-    e .process ∷ e .queue ∷ e .kind ∷ e .result ∷ e .node / 256 ∷ e .node % 256 ∷ e .start / 256 ∷ e .start % 256
-    ∷ e .end / 256 ∷ e .end % 256 ∷ e .moment / 256 ∷ e .moment % 256 ∷ []
+entryBytes e = e .process ∷ e .queue ∷ e .kind ∷ e .result ∷ (pair (e .node) ++ pair (e .start) ++ pair (e .end) ++ pair (e .moment))
 
 abbrev pub entriesBytes : List Entry → List ℕ
 entriesBytes [] = []
@@ -34,20 +40,13 @@ entriesBytes (e ∷ es) = entryBytes e ++ entriesBytes es
 unfoldable pub logBytes : Log → List ℕ
 logBytes l = headBytes (l .P) (l .C) (length (l .entries)) ++ entriesBytes (l .entries)
 
--- the first n values of f
-abbrev pub listOf : {A : Type 0} → ℕ → (ℕ → A) → List A
-listOf zero f = []
-listOf (suc n) f = f zero ∷ listOf n (λ i. f (suc i))
-
+-- the log that some bytes say, and whether they are whole: they have its length and section 1's count
 unfoldable pub decoded : List ℕ → Log
 decoded bytes = record { P = processesOf bytes; C = slotsOf bytes; entries = listOf (entryCountOf bytes) (entryAt bytes) }
 
--- one byte, and two
-abbrev pub Byte : ℕ → Type 0
-Byte x = x < 256
-
-abbrev pub Two : ℕ → Type 0
-Two x = x < 65536
+pub record Whole (bytes : List ℕ) : Type 0 where
+  pub counted : sectionCountOf bytes ≡ sectionCount
+  pub sized : length bytes ≡ logLength (entryCountOf bytes)
 
 -- the fields fit their bytes
 pub record EntryFits (e : Entry) : Type 0 where
@@ -60,19 +59,11 @@ pub record EntryFits (e : Entry) : Type 0 where
   pub end : Two (e .end)
   pub moment : Two (e .moment)
 
-abbrev pub AllFit : List Entry → Type 0
-AllFit [] = Unit {0}
-AllFit (e ∷ es) = EntryFits e × AllFit es
-
 -- P and C in the run file's ranges, at most 256 entries, and all fields fit
 pub record InRange (l : Log) : Type 0 where
   pub P-low : 1 ≤ l .P
   pub P-high : l .P ≤ 8
   pub C-low : 1 ≤ l .C
   pub C-high : l .C ≤ 64
-  pub few : length (l .entries) ≤ 256
-  pub fit : AllFit (l .entries)
-
--- a buffer with bytes put in at a place; where there is no room for all of them, as it was
-abbrev pub putAt : ℕ → List ℕ → List ℕ → List ℕ
-putAt at bytes buffer = cond (leb (at + length bytes) (length buffer)) (take at buffer ++ bytes ++ drop (at + length bytes) buffer) buffer
+  pub few : length (l .entries) ≤ mostEntries
+  pub fit : All EntryFits (l .entries)

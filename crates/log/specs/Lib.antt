@@ -1,7 +1,8 @@
+-- The log's numbers: kinds, results, and what a call did.
 pub mod Numbers
-pub mod NumbersLaws
+-- What stands in a log's bytes.
 pub mod Decode
+-- A log as bytes, the ranges, and the way back.
 pub mod Encode
-pub mod EncodeLaws
-pub mod Settled
+-- A few computed.
 pub mod Worked

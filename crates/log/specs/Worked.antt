@@ -3,8 +3,8 @@ use mathlib.Core.Path.{_≡_, refl}
 use mathlib.Core.Bool.{true, false}
 use mathlib.Core.List.{List, [], _∷_}
 use Prim.Native.Nat.{ℕ}
-use Rattle.log.specs.Decode.{byteAt, numberAt, firstEntry, entryAt}
-use Rattle.log.specs.Encode.{headBytes, entryBytes, putAt}
+use Rattle.log.specs.Decode.{firstEntry, entryAt, noEntry, logLength}
+use Rattle.log.specs.Encode.{headBytes, entryBytes, longestLog}
 use Rattle.log.specs.Numbers.{kindOf, resultOf, bearsMoment, whatOf, same}
 use Rattle.log.specs.declared.Entry.{Entry}
 use Rattle.log.specs.declared.What.the-variants.{Pushed, Full, BottomNil, TopNode, TopNil}
@@ -24,8 +24,7 @@ lastBytes = 0 ∷ 0 ∷ 2 ∷ 0 ∷ 0 ∷ 0 ∷ 0 ∷ 6 ∷ 0 ∷ 12 ∷ 0 ∷ 1
 encoded : (entryBytes last ≡ lastBytes) × (firstEntry lastBytes ≡ last) × (headBytes 2 4 3 ≡ 2 ∷ 2 ∷ 4 ∷ 0 ∷ 3 ∷ [])
 encoded = (refl, refl, refl)
 
--- high byte first, and 0 past the end; bytes are put where there is room, and only there
-placed : (byteAt lastBytes 11 ≡ 15) × (byteAt lastBytes 12 ≡ 0) × (numberAt (1 ∷ 2 ∷ []) 0 ≡ 258) × (numberAt (1 ∷ 2 ∷ []) 2 ≡ 0)
-    × (entryAt (2 ∷ 1 ∷ 4 ∷ 0 ∷ 1 ∷ lastBytes) 0 ≡ last) × (putAt 1 (7 ∷ []) (1 ∷ 2 ∷ 3 ∷ []) ≡ 1 ∷ 7 ∷ 3 ∷ []) × (putAt 3 (7 ∷ []) (1 ∷ 2 ∷ 3 ∷ []) ≡ 1 ∷ 2 ∷ 3 ∷ [])
+-- entry 0 after the head, no entry past the end; a log's length, and the longest
+placed : (entryAt (2 ∷ 1 ∷ 4 ∷ 0 ∷ 1 ∷ lastBytes) 0 ≡ last) × (entryAt (2 ∷ 1 ∷ 4 ∷ 0 ∷ 1 ∷ lastBytes) 1 ≡ noEntry) × (logLength 3 ≡ 41) × (longestLog ≡ 3077)
 unfolding entryAt
-placed = (refl, refl, refl, refl, refl, refl, refl)
+placed = (refl, refl, refl, refl)

@@ -1,7 +1,7 @@
 -- `log::what_of` meets its contract. Each way through the tests is the same way through the definition.
 use borrow.Author.Tests.{eq-eqb, ne-eqb}
-use Rattle.log.proofs.what_of.Statement.{statement}
-use Rattle.log.proofs.what_of.Tie as tie
+use Rattle.log.proofs.numbers.what_of.Statement.{statement}
+use Rattle.log.proofs.numbers.what_of.Tie as tie
 
 returns : tie.Need-returns
 returns c = rw (eq-eqb _ _ (c .before .if1 .taken), eq-eqb _ _ (c .if2 .taken))

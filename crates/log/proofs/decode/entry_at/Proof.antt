@@ -6,11 +6,8 @@ use borrow.Author.Needs.{needs}
 use lib.Seq.{take-all}
 use lib.ListN.{length-drop, length, drop, drop-of-length-le}
 use Rattle.log.specs.Decode.{entryAt, firstEntry}
-use Rattle.log.proofs.entry_at.Statement.{statement}
-use Rattle.log.proofs.entry_at.Tie as tie
-
-no-entry-requires : tie.Need-no-entry-requires
-no-entry-requires c κs = search needs
+use Rattle.log.proofs.decode.entry_at.Statement.{statement}
+use Rattle.log.proofs.decode.entry_at.Tie as tie
 
 returns : tie.Need-returns
 unfolding entryAt
@@ -19,33 +16,12 @@ returns c =
     let past : length l ≤ 5 + 12 * c .before .before .before .args .i = omega arith in
     c .no-entry .ensures ∙ sym (ap firstEntry (drop-of-length-le l past))
 
-mul-at : tie.Need-mul-at
-mul-at c = search needs
-
-add-at : tie.Need-add-at
-add-at c = search needs
-
-no-entry-requires-2 : tie.Need-no-entry-requires-2
-no-entry-requires-2 c κs = search needs
-
 returns-2 : tie.Need-returns-2
 unfolding entryAt
 returns-2 c =
     let l = c .before .before .before .before .args .log .now in
     let past : length l ≤ 5 + 12 * c .before .before .before .before .args .i = omega arith in
     c .no-entry2 .ensures ∙ sym (ap firstEntry (drop-of-length-le l past))
-
-sub-first-entry : tie.Need-sub-first-entry
-sub-first-entry c = search needs
-
-part-first-entry-start : tie.Need-part-first-entry-start
-part-first-entry-start c = search needs
-
-part-first-entry-end : tie.Need-part-first-entry-end
-part-first-entry-end c = search needs
-
-first-entry-requires : tie.Need-first-entry-requires
-first-entry-requires c κs = search needs
 
 returns-3 : tie.Need-returns-3
 unfolding entryAt
@@ -59,14 +35,14 @@ pub entry-at-spec : {M : Type 1} → statement M
 entry-at-spec =
     tie.close
     (tie.spec
-    no-entry-requires
+    (λ c κs. search needs)
     returns
-    mul-at
-    add-at
-    no-entry-requires-2
+    (λ c. search needs)
+    (λ c. search needs)
+    (λ c κs. search needs)
     returns-2
-    sub-first-entry
-    part-first-entry-start
-    part-first-entry-end
-    first-entry-requires
+    (λ c. search needs)
+    (λ c. search needs)
+    (λ c. search needs)
+    (λ c κs. search needs)
     returns-3)

@@ -1,0 +1,71 @@
+// What a call did: its kind, its result, and whether it has a moment.
+ghost use mathlib.Core.Path.{_≡_};
+ghost use Rattle.log.specs.Numbers.{kindOf, resultOf, bearsMoment, whatOf, same as sameWhat};
+use crate::BOTTOM_POP;
+use crate::DONE;
+use crate::FULL;
+use crate::NIL;
+use crate::PUSH;
+use crate::TOP_POP;
+use crate::What;
+
+// The kind of what a call did.
+pub fn kind_of(what: What) -> u8
+    ensures { λ r. ⌜ r ≡ kindOf what ⌝ }
+{
+    match what {
+        What::Pushed | What::Full => PUSH,
+        What::BottomNode | What::BottomNil => BOTTOM_POP,
+        What::TopNode | What::TopNil => TOP_POP,
+    }
+}
+
+// The result of what a call did.
+pub fn result_of(what: What) -> u8
+    ensures { λ r. ⌜ r ≡ resultOf what ⌝ }
+{
+    match what {
+        What::Full => FULL,
+        What::BottomNil | What::TopNil => NIL,
+        _ => DONE,
+    }
+}
+
+// Whether the log has a moment for it.
+pub fn bears_moment(what: What) -> bool
+    ensures { λ r. ⌜ r ≡ bearsMoment what ⌝ }
+{
+    match what {
+        What::Full | What::TopNil => false,
+        _ => true,
+    }
+}
+
+// What a kind and a result say a call did. Numbers that are no kind and no result read as a top pop and as NIL: every reader refuses them before it asks.
+pub fn what_of(kind: u8, result: u8) -> What
+    ensures { λ r. ⌜ r ≡ whatOf kind result ⌝ }
+{
+    if kind == PUSH {
+        if result == DONE {
+            return What::Pushed;
+        }
+        return What::Full;
+    }
+    if kind == BOTTOM_POP {
+        if result == DONE {
+            return What::BottomNode;
+        }
+        return What::BottomNil;
+    }
+    if result == DONE {
+        return What::TopNode;
+    }
+    What::TopNil
+}
+
+// Whether two calls did the same: kind and result tell all of it.
+pub fn same(a: What, b: What) -> bool
+    ensures { λ r. ⌜ r ≡ sameWhat a b ⌝ }
+{
+    (kind_of(a) == kind_of(b)) & (result_of(a) == result_of(b))
+}
