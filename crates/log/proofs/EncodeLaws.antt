@@ -36,7 +36,8 @@ entry-back (e ∷ es) (suc i) =
 pub entry-decoded : (l : Log) (i : ℕ) → entryAt (logBytes l) i ≡ getD (l .entries) i noEntry
 unfolding entryAt logBytes
 entry-decoded l i =
-    ap firstEntry (drop-append-add (headBytes (l .P) (l .C) (length (l .entries))) (entriesBytes (l .entries)) (entryLength * i)) ∙ entry-back (l .entries) i
+    ap firstEntry (drop-append-add (headBytes (l .P) (l .C) (length (l .entries))) (entriesBytes (l .entries)) (entryLength * i))
+    ∙ entry-back (l .entries) i
 
 pub processes-decoded : (l : Log) → processesOf (logBytes l) ≡ l .P
 unfolding logBytes
@@ -94,7 +95,8 @@ module _ (bytes : List ℕ) (ok : Bytes bytes) where
       let s : entryLength * suc n ≡ entryLength + entryLength * n = omega arith in
       let next : (i : ℕ) → at + entryLength * suc i ≡ at + entryLength + entryLength * i = λ i. omega arith in
       rw (s, z, take-add entryLength (entryLength * n) (drop at bytes), drop-drop entryLength at bytes)
-      (ap (λ (l : List ℕ). l ++ entriesBytes (listOf n (λ i. firstEntry (drop (at + entryLength * suc i) bytes)))) (entry-encode-decode at (omega arith))
+      (ap (λ (l : List ℕ). l ++ entriesBytes (listOf n (λ i. firstEntry (drop (at + entryLength * suc i) bytes))))
+      (entry-encode-decode at (omega arith))
       ∙ ap (λ (l : List ℕ). take entryLength (drop at bytes) ++ l)
       (ap (λ (f : ℕ → Entry). entriesBytes (listOf n f)) (λ j i. firstEntry (drop (next i j) bytes)) ∙ rows n (at + entryLength) (omega arith)))
 
@@ -110,7 +112,10 @@ module _ (bytes : List ℕ) (ok : Bytes bytes) where
       fits = ok 4
 
       head : headBytes (processesOf bytes) (slotsOf bytes) (entryCountOf bytes) ≡ take 5 bytes
-      head = (λ i. sym (w .counted) i ∷ byteAt bytes 1 ∷ byteAt bytes 2 ∷ high (byteAt bytes 3) (byteAt bytes 4) fits i ∷ low (byteAt bytes 3) (byteAt bytes 4) fits i ∷ [])
+      head =
+          let h = byteAt bytes 3 in
+          let l = byteAt bytes 4 in
+          (λ i. sym (w .counted) i ∷ byteAt bytes 1 ∷ byteAt bytes 2 ∷ high h l fits i ∷ low h l fits i ∷ [])
           ∙ listOf-take 0 5 bytes (omega arith)
 
   -- what is read from bytes fits them
@@ -124,7 +129,8 @@ module _ (bytes : List ℕ) (ok : Bytes bytes) where
       two : (k : ℕ) → Two (numberAt (drop (logLength i) bytes) k)
       two k = omega (arith, one k, one (k + 1))
 
-  pub in-range : 1 ≤ processesOf bytes → processesOf bytes ≤ 8 → 1 ≤ slotsOf bytes → slotsOf bytes ≤ 64 → entryCountOf bytes ≤ mostEntries → InRange (decoded bytes)
+  pub in-range : 1 ≤ processesOf bytes → processesOf bytes ≤ 8 → 1 ≤ slotsOf bytes → slotsOf bytes ≤ 64 → entryCountOf bytes ≤ mostEntries
+      → InRange (decoded bytes)
   unfolding decoded
   in-range p q c d n = record {
     P-low = p;

@@ -25,6 +25,7 @@ encoded : (entryBytes last ≡ lastBytes) × (firstEntry lastBytes ≡ last) × 
 encoded = (refl, refl, refl)
 
 -- entry 0 after the head, no entry past the end; a log's length, and the longest
-placed : (entryAt (2 ∷ 1 ∷ 4 ∷ 0 ∷ 1 ∷ lastBytes) 0 ≡ last) × (entryAt (2 ∷ 1 ∷ 4 ∷ 0 ∷ 1 ∷ lastBytes) 1 ≡ noEntry) × (logLength 3 ≡ 41) × (longestLog ≡ 3077)
+placed : (entryAt (2 ∷ 1 ∷ 4 ∷ 0 ∷ 1 ∷ lastBytes) 0 ≡ last) × (entryAt (2 ∷ 1 ∷ 4 ∷ 0 ∷ 1 ∷ lastBytes) 1 ≡ noEntry)
+    × (logLength 3 ≡ 41) × (longestLog ≡ 3077)
 unfolding entryAt
 placed = (refl, refl, refl, refl)

@@ -41,7 +41,7 @@ pub fn bears_moment(what: What) -> bool
     }
 }
 
-// What a kind and a result say a call did. Numbers that are no kind and no result read as a top pop and as NIL: every reader refuses them before it asks.
+// What a kind and a result say a call did. Other numbers read as a top pop and as NIL: every reader refuses them before it asks.
 pub fn what_of(kind: u8, result: u8) -> What
     ensures { λ r. ⌜ r ≡ whatOf kind result ⌝ }
 {

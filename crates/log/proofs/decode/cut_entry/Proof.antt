@@ -1,10 +1,22 @@
--- `log::cut_entry` meets its contract. The fields one by one, from what `byte_at` and `number_at` ensure.
+-- `cut_entry` meets its contract. The fields one by one, from what `byte_at` and `number_at` ensure.
 use borrow.Author.Needs.{needs}
 use Rattle.log.proofs.decode.cut_entry.Statement.{statement}
 use Rattle.log.proofs.decode.cut_entry.Tie as tie
 
 returns : tie.Need-returns
-returns c = rw (c .before .before .before .before .before .before .before .byte-at .ensures, c .before .before .before .before .before .before .byte-at2 .ensures, c .before .before .before .before .before .byte-at3 .ensures, c .before .before .before .before .byte-at4 .ensures, c .before .before .before .number-at .ensures, c .before .before .number-at2 .ensures, c .before .number-at3 .ensures, c .number-at4 .ensures)
+returns c =
+    let numbers = c .before .before .before in
+    let bytes = numbers .before in
+    rw (
+      bytes .before .before .before .byte-at .ensures,
+      bytes .before .before .byte-at2 .ensures,
+      bytes .before .byte-at3 .ensures,
+      bytes .byte-at4 .ensures,
+      numbers .number-at .ensures,
+      c .before .before .number-at2 .ensures,
+      c .before .number-at3 .ensures,
+      c .number-at4 .ensures,
+    )
 
 pub cut-entry-spec : {M : Type 1} → statement M
 cut-entry-spec =

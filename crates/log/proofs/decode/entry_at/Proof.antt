@@ -1,4 +1,4 @@
--- `log::entry_at` meets its contract. Past the last entry nothing is left of the bytes; else the rest of them begins with the entry.
+-- `entry_at` meets its contract. Past the last entry nothing is left of the bytes; else the rest of them begins with the entry.
 use mathlib.Core.Path.{sym, ap, _∙_}
 use Prim.Native.Nat.{_+_, _-_, _*_, _≤_}
 use native.Mathlib.Omega.{arith}

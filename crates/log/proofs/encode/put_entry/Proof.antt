@@ -1,4 +1,4 @@
--- `log::put_entry` meets its contract. What `put` ensures, of the entry's twelve bytes.
+-- `put_entry` meets its contract. What `put` ensures, of the entry's twelve bytes.
 use borrow.Author.Needs.{needs}
 use Rattle.log.proofs.encode.put_entry.Statement.{statement}
 use Rattle.log.proofs.encode.put_entry.Tie as tie

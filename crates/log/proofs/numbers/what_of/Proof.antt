@@ -1,4 +1,4 @@
--- `log::what_of` meets its contract. Each way through the tests is the same way through the definition.
+-- `what_of` meets its contract. Each way through the tests is the same way through the definition.
 use borrow.Author.Tests.{eq-eqb, ne-eqb}
 use Rattle.log.proofs.numbers.what_of.Statement.{statement}
 use Rattle.log.proofs.numbers.what_of.Tie as tie
