@@ -3,7 +3,9 @@ use mathlib.Core.Bool.{Bool, false, cond, _||_}
 use mathlib.Core.List.{List, [], _∷_}
 use Prim.Native.Nat.{ℕ, zero, suc, _+_}
 use lib.Dec.{ltb}
+use lib.ListN.{length}
 
+infix 30 _endsBefore_
 infix 25 _when_
 infixr 20 _then_
 -- the number where the test holds, else 0
@@ -14,6 +16,10 @@ number when test = cond test number 0
 abbrev pub _then_ : ℕ → ℕ → ℕ
 zero then later = later
 suc n then later = suc n
+
+-- whether the bytes end before a place
+abbrev pub _endsBefore_ : List ℕ → ℕ → Bool
+s endsBefore place = ltb (length s) place
 
 -- whether one of the list passes the test
 abbrev pub any {ℓ} : {A : Type ℓ} → (A → Bool) → List A → Bool

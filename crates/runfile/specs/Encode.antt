@@ -1,42 +1,36 @@
 -- The ranges of a run file, and the file as bytes.
 use mathlib.Core.Path.{_≡_}
 use mathlib.Core.List.{List, [], _∷_, _++_}
-use Prim.Native.Nat.{ℕ, _/_, _%_, _<_, _≤_}
+use Prim.Native.Nat.{ℕ, _<_, _≤_}
 use lib.ListN.{length, getD}
+use Rattle.base.specs.Bytes.{pair}
 use Rattle.runfile.specs.declared.Call.{Call}
-use Rattle.runfile.specs.declared.Call.the-variants.{Push, Pop, Take, Wrong}
+use Rattle.runfile.specs.declared.Call.the-variants.{Push, Pop, Take}
 use Rattle.runfile.specs.Check.{sum}
-use Rattle.runfile.specs.File.{RunFile}
+use Rattle.runfile.specs.File.{RunFile, sectionCount, mostWidth, mostSize, mostProcesses, longestScript, longestSchedule}
 
 -- a call, of a file for so many processes
 abbrev pub CallInRange : ℕ → Call → Type 0
 CallInRange processes (Push node) = (1 ≤ node) × (node ≤ 65535)
 CallInRange processes Pop = Unit
 CallInRange processes (Take queue) = queue < processes
-CallInRange processes (Wrong n) = ⊥
 
 pub record InRanges (f : RunFile) : Type 0 where
-  pub width : (1 ≤ f .width) × (f .width ≤ 16)
-  pub size : (1 ≤ f .size) × (f .size ≤ 64)
-  pub processes : (1 ≤ length (f .shares)) × (length (f .shares) ≤ 8)
-  pub shares : (p : ℕ) → p < length (f .shares) → getD (f .shares) p 0 ≤ 32
+  pub width : (1 ≤ f .width) × (f .width ≤ mostWidth)
+  pub size : (1 ≤ f .size) × (f .size ≤ mostSize)
+  pub processes : (1 ≤ length (f .shares)) × (length (f .shares) ≤ mostProcesses)
+  pub shares : (p : ℕ) → p < length (f .shares) → getD (f .shares) p 0 ≤ longestScript
   pub count : length (f .calls) ≡ sum (f .shares)
   pub calls : (k : ℕ) → k < length (f .calls) → CallInRange (length (f .shares)) (getD (f .calls) k Pop)
   pub once : (j k node : ℕ) → j < k → k < length (f .calls)
       → getD (f .calls) j Pop ≡ Push node → getD (f .calls) k Pop ≡ Push node → ⊥
-  pub steps : length (f .schedule) ≤ 4096
+  pub steps : length (f .schedule) ≤ longestSchedule
   pub schedule : (k : ℕ) → k < length (f .schedule) → getD (f .schedule) k 0 < length (f .shares)
 
--- a number in two bytes, high byte first
-abbrev pub pair : ℕ → List ℕ
-pair x = x / 256 ∷ x % 256 ∷ []
-
--- no good file has a `Wrong` call; it stands here as three bytes that no call has
 abbrev pub callBytes : Call → List ℕ
 callBytes (Push node) = 1 ∷ pair node
 callBytes Pop = 2 ∷ pair 0
 callBytes (Take queue) = 3 ∷ pair queue
-callBytes (Wrong n) = 0 ∷ pair 0
 
 abbrev pub callsBytes : List Call → List ℕ
 callsBytes [] = []
@@ -44,7 +38,7 @@ callsBytes (c ∷ cs) = callBytes c ++ callsBytes cs
 
 -- the four sections
 abbrev pub bytes1 : RunFile → List ℕ
-bytes1 f = 2 ∷ f .width ∷ f .size ∷ []
+bytes1 f = sectionCount ∷ f .width ∷ f .size ∷ []
 
 abbrev pub bytes2 : RunFile → List ℕ
 bytes2 f = length (f .shares) ∷ f .shares
@@ -57,7 +51,3 @@ bytes4 f = pair (length (f .schedule)) ++ f .schedule
 
 abbrev pub encode : RunFile → List ℕ
 encode f = bytes1 f ++ (bytes2 f ++ (bytes3 f ++ bytes4 f))
-
--- every number of the list is a byte
-abbrev pub Bytes : List ℕ → Type 0
-Bytes s = (i : ℕ) → getD s i 0 < 256

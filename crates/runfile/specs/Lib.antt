@@ -1,17 +1,10 @@
-pub mod AccessLaws
-pub mod ByteLaws
-pub mod CallLaws
-pub mod CaseLaws
+-- How a refusal is decided: a chain of tests, each with its number.
 pub mod Check
-pub mod CheckLaws
-pub mod DecodeLaws
-pub mod Encode
-pub mod EncodeLaws
+-- What a run file says, where its bytes stand, and the number that refuses it.
 pub mod File
-pub mod GoodLaws
-pub mod PartLaws
-pub mod PrefixLaws
-pub mod RangeLaws
-pub mod ReadingLaws
-pub mod Settled
+-- The ranges of a run file, and the file as bytes.
+pub mod Encode
+-- Files, each with its number.
 pub mod Worked
+-- Terms of the code: a reader may skip them.
+pub mod inner

@@ -2,9 +2,9 @@
 use mathlib.Core.Path.{_≡_, refl}
 use mathlib.Core.List.{List, [], _∷_, _++_, map}
 use Prim.Native.Nat.{ℕ}
-use lib.ListN.{replicate}
-use Rattle.runfile.specs.declared.Call.the-variants.{Push, Pop, Take, Wrong}
-use Rattle.runfile.specs.File.{good, fileOf, readingOf, numberIn, lengthAt, callsBefore, callAt, stepPlace, whoAt}
+use lib.ListN.{replicate, drop}
+use Rattle.runfile.specs.declared.Call.the-variants.{Push, Pop, Take}
+use Rattle.runfile.specs.File.{good, fileOf, readingOf, numberIn, laterSections, lengthAt, callsBefore, callAt, stepPlace}
 use Rattle.runfile.specs.Encode.{callsBytes}
 
 pub record Case : Type 0 where
@@ -97,10 +97,41 @@ cases =
     gives 0 (scheduled 0 0 []) ∷
     []
 
+-- Files with two faults each: the earlier in the order of the sections decides, and in a section the earlier of its tests.
+abbrev pub orderCases : List Case
+orderCases =
+    -- P is 9, and there are calls where the lengths say none
+    gives 3 (2 ∷ 8 ∷ 4 ∷ 9 ∷ 0 ∷ 0 ∷ 0 ∷ 0 ∷ 0 ∷ 0 ∷ 0 ∷ 0 ∷ 0 ∷ 0 ∷ 1 ∷ 0 ∷ 0 ∷ []) ∷
+    -- P is 2, and its second length is missing
+    gives 1 (2 ∷ 8 ∷ 4 ∷ 2 ∷ 33 ∷ []) ∷
+    -- a script of 33 calls, and a call of code 4
+    gives 3 (2 ∷ 8 ∷ 4 ∷ 1 ∷ 33 ∷ 0 ∷ 33 ∷ (4 ∷ 0 ∷ 0 ∷ (callsBytes (replicate 32 Pop) ++ (0 ∷ 0 ∷ [])))) ∷
+    -- a script of 33 calls, and a call count of 1
+    gives 3 (2 ∷ 8 ∷ 4 ∷ 1 ∷ 33 ∷ 0 ∷ 1 ∷ 2 ∷ 0 ∷ 0 ∷ 0 ∷ 0 ∷ []) ∷
+    -- a call count of 2 for a length of 1, and the second call missing
+    gives 4 (2 ∷ 8 ∷ 4 ∷ 1 ∷ 1 ∷ 0 ∷ 2 ∷ 2 ∷ 0 ∷ 0 ∷ []) ∷
+    -- a call of code 4, and the second call missing
+    gives 1 (2 ∷ 8 ∷ 4 ∷ 1 ∷ 2 ∷ 0 ∷ 2 ∷ 4 ∷ 0 ∷ 0 ∷ []) ∷
+    -- a call of node 0, and a schedule of 4,097 steps
+    gives 5 (2 ∷ 8 ∷ 4 ∷ 1 ∷ 1 ∷ 0 ∷ 1 ∷ 1 ∷ 0 ∷ 0 ∷ 16 ∷ 1 ∷ []) ∷
+    -- a call of code 4, and the schedule's length missing
+    gives 4 (2 ∷ 8 ∷ 4 ∷ 1 ∷ 1 ∷ 0 ∷ 1 ∷ 4 ∷ 0 ∷ 0 ∷ []) ∷
+    -- a step of process 1 of 1, and a step missing
+    gives 1 (scheduled 0 2 (1 ∷ [])) ∷
+    -- a step of process 1 of 1, and a byte after section 4
+    gives 6 (scheduled 0 1 (1 ∷ 0 ∷ [])) ∷
+    []
+
 -- computed on the definition that `read` is proved to follow
-pub worked : map (λ (c : Case). numberIn (readingOf (fileOf (c .file)))) cases ≡ map (λ (c : Case). c .number) cases
+abbrev numbersGiven : List Case → List ℕ
+numbersGiven = map (λ (c : Case). numberIn (readingOf (fileOf (c .file))))
+
+abbrev numbersDue : List Case → List ℕ
+numbersDue = map (λ (c : Case). c .number)
+
+pub worked : (numbersGiven cases ≡ numbersDue cases) × (numbersGiven orderCases ≡ numbersDue orderCases)
 unfolding fileOf
-worked = refl
+worked = (refl, refl)
 
 -- K1's file, a line a section, and what it says
 abbrev pub k1 : List ℕ
@@ -121,11 +152,16 @@ pub k1-says : fileOf k1 ≡ good (record {
 unfolding fileOf
 k1-says = refl
 
--- what the accessors give of K1's file, and past its end
-abbrev k1-file : List ℕ
-k1-file = 2 ∷ 8 ∷ 4 ∷ 2 ∷ 2 ∷ 1 ∷ 0 ∷ 3 ∷ 1 ∷ 0 ∷ 7 ∷ 2 ∷ 0 ∷ 0 ∷ 3 ∷ 0 ∷ 0 ∷ 0 ∷ 9 ∷ 0 ∷ 0 ∷ 0 ∷ 1 ∷ 1 ∷ 1 ∷ 0 ∷ 0 ∷ 1 ∷ []
+-- what the accessors give of it, and past its end
+accessed : (lengthAt k1 0 ≡ 2) × (lengthAt k1 1 ≡ 1) × (callsBefore k1 0 ≡ 0) × (callsBefore k1 1 ≡ 2)
+    × (callAt k1 2 0 ≡ Push 7) × (callAt k1 2 1 ≡ Pop) × (callAt k1 2 2 ≡ Take 0) × (callAt k1 2 99 ≡ Pop)
+    × (stepPlace 2 3 0 ≡ 19) × (stepPlace 2 3 9 ≡ 28)
+accessed = (refl, refl, refl, refl, refl, refl, refl, refl, refl, refl)
 
-accessed : (lengthAt k1-file 0 ≡ 2) × (lengthAt k1-file 1 ≡ 1) × (callsBefore k1-file 0 ≡ 0) × (callsBefore k1-file 1 ≡ 2)
-    × (callAt k1-file 2 0 ≡ Push 7) × (callAt k1-file 2 1 ≡ Pop) × (callAt k1-file 2 2 ≡ Take 0) × (callAt k1-file 2 99 ≡ Wrong 4)
-    × (whoAt k1-file 2 3 2 ≡ 0) × (whoAt k1-file 2 3 3 ≡ 1) × (whoAt k1-file 2 3 99 ≡ 0) × (stepPlace 2 3 0 ≡ 19)
-accessed = (refl, refl, refl, refl, refl, refl, refl, refl, refl, refl, refl, refl)
+-- K1 with a section 1 of four bytes, and without the first of them: sections 2 to 4 and the accessors find what they find in K1.
+abbrev longer : List ℕ
+longer = 3 ∷ 8 ∷ 4 ∷ 1 ∷ drop 3 k1
+
+found : (laterSections (drop 1 longer) ≡ 0) × (lengthAt (drop 1 longer) 0 ≡ 2) × (callsBefore (drop 1 longer) 1 ≡ 2)
+    × (callAt (drop 1 longer) 2 0 ≡ Push 7) × (laterSections (drop 1 longer ++ (0 ∷ [])) ≡ 7)
+found = (refl, refl, refl, refl, refl)

@@ -1,0 +1,19 @@
+-- Chains of tests, parts of some bytes, and the calls of a file, as loops take them.
+pub mod CheckLaws
+pub mod PartLaws
+pub mod CallLaws
+-- What number 0 says of a file, test by test, both ways; the reader's answer and the file.
+pub mod GoodLaws
+pub mod ReadingLaws
+-- What is read as good is in range, and its encoding is the bytes that were read.
+pub mod RangeLaws
+pub mod DecodeLaws
+-- Every record in range is encoded in bytes, and read back as itself.
+pub mod EncodeLaws
+pub mod ByteLaws
+-- A proper prefix of a good file gives 1; bytes after it give 7.
+pub mod PrefixLaws
+-- What the accessors give of a good file.
+pub mod AccessLaws
+-- Two answers that one promise allows are equal.
+pub mod Settled

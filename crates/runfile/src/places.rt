@@ -1,0 +1,84 @@
+// Where the bytes stand. But for W and C nothing here looks at section 1: a file whose section 1 has one byte more is read by
+// these functions, and those of the other sections, as the slice without its first byte.
+ghost use mathlib.Core.Path.{_≡_};
+ghost use Prim.Native.Nat.{_<_};
+ghost use Rattle.runfile.specs.File.{lengthAt, callsBefore, callPlace, stepPlace, callsIn, stepsIn};
+ghost use Rattle.runfile.specs.inner.Counts.{shapeIn};
+use crate::Shape;
+use base::byte_at;
+use base::number_at;
+use base::u8_to_u16;
+use base::u8_to_usize;
+use base::u16_to_usize;
+
+impl Shape {
+    // Where the bytes of the schedule begin, and where they end.
+    pub fn schedule_place(self) -> usize
+        ensures { λ r. ⌜ (r ≡ stepPlace (self .processes) (self .calls) 0) × (r < 1000000) ⌝ }
+    {
+        call_place(self.processes, self.calls) + 2
+    }
+
+    pub fn schedule_end(self) -> usize
+        ensures { λ r. ⌜ (r ≡ stepPlace (self .processes) (self .calls) (self .steps)) × (r < 1100000) ⌝ }
+    {
+        self.schedule_place() + u16_to_usize(self.steps)
+    }
+}
+
+// The script length of process p.
+pub fn length_at(file: &[u8], p: u8) -> u8
+    ensures { λ r. ⌜ r ≡ lengthAt (now (file .entry)) p ⌝ }
+{
+    byte_at(file, 4 + u8_to_usize(p))
+}
+
+// How many calls stand before those of process p: the sum of the script lengths below p.
+pub fn calls_before(file: &[u8], p: u8) -> u16
+    ensures { λ r. ⌜ r ≡ callsBefore (now (file .entry)) p ⌝ }
+{
+    let mut calls: u16 = 0;
+    let mut i: u8 = 0;
+    while i < p {
+        let share = u8_to_u16(length_at(file, i));
+        calls = calls + share;
+        i = i + 1;
+    }
+    calls
+}
+
+// Where call k begins.
+pub(crate) fn call_place(processes: u8, k: u16) -> usize
+    ensures { λ r. ⌜ (r ≡ callPlace processes k) × (r < 900000) ⌝ }
+{
+    6 + u8_to_usize(processes) + 3 * u16_to_usize(k)
+}
+
+// The number of calls, and below it the length of the schedule, as the file gives them.
+fn calls_in(file: &[u8]) -> u16
+    ensures { λ r. ⌜ r ≡ callsIn (now (file .entry)) ⌝ }
+{
+    number_at(file, 4 + u8_to_usize(byte_at(file, 3)))
+}
+
+fn steps_in(file: &[u8]) -> u16
+    ensures { λ r. ⌜ r ≡ stepsIn (now (file .entry)) ⌝ }
+{
+    let processes = byte_at(file, 3);
+    let calls = calls_in(file);
+    let at = call_place(processes, calls);
+    number_at(file, at)
+}
+
+// All counts, as the file gives them.
+pub(crate) fn shape_in(file: &[u8]) -> Shape
+    ensures { λ r. ⌜ r ≡ shapeIn (now (file .entry)) ⌝ }
+{
+    Shape {
+        width: byte_at(file, 1),
+        size: byte_at(file, 2),
+        processes: byte_at(file, 3),
+        calls: calls_in(file),
+        steps: steps_in(file),
+    }
+}
