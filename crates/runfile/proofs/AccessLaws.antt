@@ -10,7 +10,8 @@ use Rattle.base.proofs.Bytes.{part-get}
 use Rattle.runfile.specs.declared.Call.the-variants.{Pop}
 use Rattle.runfile.specs.declared.Reading.the-variants.{Good}
 use Rattle.runfile.specs.Check.{sum}
-use Rattle.runfile.specs.File.{RunFile, good, script, processesIn, callsIn, stepPlace, lengthAt, callsBefore, callAt, recordIn, fileOf, shapeOf, readingOf}
+use Rattle.runfile.specs.File.{RunFile, good, script, processesIn, callsIn, stepPlace, lengthAt, callsBefore, callAt, recordIn, fileOf, shapeOf}
+use Rattle.runfile.specs.File.{readingOf}
 use Rattle.runfile.proofs.CallLaws.{call-get}
 use Rattle.runfile.proofs.GoodLaws.{Passes, good-passes, shares-length, all-calls-length, schedule-length}
 

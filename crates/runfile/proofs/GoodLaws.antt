@@ -11,7 +11,9 @@ use Rattle.base.proofs.Bools.{or-0, or-1}
 use Rattle.base.proofs.Bytes.{part-length}
 use Rattle.runfile.specs.Check.{_when_, _then_, any, firstOf, outside}
 use Rattle.runfile.proofs.CheckLaws.{then-on, then-none, when-none}
-use Rattle.runfile.specs.File.{RunFile, good, sectionCount, mostWidth, mostSize, mostProcesses, longestScript, longestSchedule, widthIn, sizeIn, processesIn, callsIn, stepsIn, callsBefore, callPlace, stepPlace, wrongAt, recordIn, section1, section2, section3, section4, numberOf, answer, fileOf}
+use Rattle.runfile.specs.File.{RunFile, good, sectionCount, mostWidth, mostSize, mostProcesses, longestScript, longestSchedule, widthIn, sizeIn}
+use Rattle.runfile.specs.File.{processesIn, callsIn, stepsIn, callsBefore, callPlace, stepPlace, wrongAt, recordIn, section1, section2}
+use Rattle.runfile.specs.File.{section3, section4, numberOf, answer, fileOf}
 use Rattle.runfile.proofs.CallLaws.{calls-length}
 
 pub record Passes (s : List ℕ) : Type 0 where
@@ -71,7 +73,7 @@ module _ (s : List ℕ) where
       let f = then-none (section4 s) _ (d .1) in
       let s1 = section-none (length s) 1 1 (not (eqb (getD s 0 0) sectionCount)) 3 _ (a .0) in
       let s2 = section-none (length s) 2 4 (outside 1 mostProcesses P) (4 + P) _ (b .0) in
-      let s3 = section-none (length s) 3 (6 + P) (not (eqb n (callsBefore s P))) (callPlace P n) _ (d .0) in
+      let s3 = section-none (length s) 3 (callPlace P 0) (not (eqb n (callsBefore s P))) (callPlace P n) _ (d .0) in
       let s4 = section-none (length s) 5 (stepPlace P n 0) (ltb longestSchedule m) (stepPlace P n m) _ (f .0) in
       let wc = then-none (2 when outside 1 mostWidth (widthIn s)) _ (s1 .3) in
       record {
@@ -88,7 +90,8 @@ module _ (s : List ℕ) where
       }
 
   -- each section passes when it is there and its tests hold
-  pub pass1 : 3 ≤ length s → getD s 0 0 ≡ sectionCount → (1 ≤ widthIn s) × (widthIn s ≤ mostWidth) → (1 ≤ sizeIn s) × (sizeIn s ≤ mostSize) → section1 s ≡ 0
+  pub pass1 : 3 ≤ length s → getD s 0 0 ≡ sectionCount → (1 ≤ widthIn s) × (widthIn s ≤ mostWidth) → (1 ≤ sizeIn s) × (sizeIn s ≤ mostSize)
+      → section1 s ≡ 0
   pass1 there mark width size =
       section-pass (length s) 2 1 (not (eqb (getD s 0 0) sectionCount)) 3 _ (omega arith) (rw mark) there
       ∙ rw (inside-range 1 mostWidth (widthIn s) width, inside-range 1 mostSize (sizeIn s) size)
@@ -99,7 +102,7 @@ module _ (s : List ℕ) where
 
   pub pass3 : callPlace P n ≤ length s → n ≡ callsBefore s P → firstOf (wrongAt s P) n ≡ 0 → section3 s ≡ 0
   pass3 there count calls =
-      section-pass (length s) 4 (6 + P) (not (eqb n (callsBefore s P))) (callPlace P n) _ (omega arith)
+      section-pass (length s) 4 (callPlace P 0) (not (eqb n (callsBefore s P))) (callPlace P n) _ (omega arith)
       (rw (eq-eqb n (callsBefore s P) count)) there
       ∙ calls
 

@@ -12,7 +12,9 @@ use lib.Seq.{drop-append-le, take-append-le}
 use Rattle.base.specs.Bytes.{part, numberAt}
 use Rattle.runfile.specs.declared.Call.{Call}
 use Rattle.runfile.specs.Check.{_when_, _then_, any, sum, outside}
-use Rattle.runfile.specs.File.{RunFile, refused, good, sectionCount, mostWidth, mostSize, mostProcesses, longestSchedule, processesIn, callsIn, stepsIn, callPlace, stepPlace, codedAt, callIn, callAt, firstCalls, callsBefore, wrongAfter, wrongAt, recordIn, section1, section2, section3, section4, numberOf, fileOf}
+use Rattle.runfile.specs.File.{RunFile, refused, good, sectionCount, mostWidth, mostSize, mostProcesses, longestSchedule, processesIn, callsIn}
+use Rattle.runfile.specs.File.{stepsIn, callPlace, stepPlace, codedAt, callIn, callAt, firstCalls, callsBefore, wrongAfter, wrongAt, recordIn}
+use Rattle.runfile.specs.File.{section1, section2, section3, section4, numberOf, fileOf}
 use Rattle.runfile.proofs.CheckLaws.{then-on, first-none, first-all}
 use Rattle.runfile.proofs.CallLaws.{listOf-same}
 use Rattle.runfile.proofs.GoodLaws.{Passes, good-passes, section, pass1, pass2, pass3, pass4, after-sections, inside-range}
@@ -147,8 +149,9 @@ module _ (a x : List ℕ) where
     cut3 before short =
         let p = processes-same a x (omega arith) in
         let sh = shares-same a x before in
-        section-cut (length a) 4 (6 + processesIn a) (not (eqb (callsIn a) (callsBefore a (processesIn a)))) (callPlace (processesIn a) (callsIn a)) _
-        (λ there. let n = count-same a x there in
+        section-cut (length a) 4 (callPlace (processesIn a) 0) (not (eqb (callsIn a) (callsBefore a (processesIn a))))
+        (callPlace (processesIn a) (callsIn a)) _
+        (λ there. let n = count-same a x (omega arith) in
         (rw (eq-eqb (callsIn a) (callsBefore a (processesIn a)) (sym n ∙ h .count ∙ ap sum sh)), omega arith))
 
     cut4 : callPlace (processesIn a) (callsIn a) ≤ length a → section4 a ≡ 1

@@ -12,7 +12,8 @@ use Rattle.runfile.specs.declared.Call.{Call}
 use Rattle.runfile.specs.declared.Call.the-variants.{Push, Pop}
 use Rattle.runfile.specs.declared.Coded.{Coded}
 use Rattle.runfile.specs.Check.{sum}
-use Rattle.runfile.specs.File.{RunFile, good, longestScript, processesIn, callsIn, callPlace, callOf, codedAt, callIn, firstCalls, pushes, wrongAfter, wrongAt, recordIn, fileOf}
+use Rattle.runfile.specs.File.{RunFile, good, longestScript, processesIn, callsIn, callPlace, callOf, codedAt, callIn, firstCalls, pushes}
+use Rattle.runfile.specs.File.{wrongAfter, wrongAt, recordIn, fileOf}
 use Rattle.runfile.specs.Encode.{CallInRange, InRanges}
 use Rattle.runfile.proofs.CheckLaws.{first-none, any-none}
 use Rattle.runfile.proofs.CallLaws.{calls-length, call-get, first-push}

@@ -59,11 +59,14 @@ sizeIn s = byteAt s 2
 abbrev pub processesIn : List ℕ → ℕ
 processesIn s = byteAt s 3
 
+abbrev pub sharePlace : ℕ → ℕ
+sharePlace p = 4 + p
+
 abbrev pub lengthAt : List ℕ → ℕ → ℕ
-lengthAt s p = byteAt s (4 + p)
+lengthAt s p = byteAt s (sharePlace p)
 
 abbrev pub firstLengths : List ℕ → ℕ → List ℕ
-firstLengths s p = part s 4 p
+firstLengths s p = part s (sharePlace 0) p
 
 -- the number of calls before those of process p
 abbrev pub callsBefore : List ℕ → ℕ → ℕ
@@ -71,7 +74,7 @@ callsBefore s p = sum (firstLengths s p)
 
 -- Section 3: the number of calls, then each call in three bytes, a code and an argument.
 abbrev pub callsIn : List ℕ → ℕ
-callsIn s = numberAt s (4 + processesIn s)
+callsIn s = numberAt s (sharePlace (processesIn s))
 
 abbrev pub callPlace : ℕ → ℕ → ℕ
 callPlace processes k = 6 + processes + 3 * k
@@ -144,14 +147,14 @@ section1 s =
 
 abbrev pub section2 : List ℕ → ℕ
 section2 s =
-    1 when s endsBefore 4
+    1 when s endsBefore (sharePlace 0)
     then 3 when outside 1 mostProcesses (processesIn s)
-    then 1 when s endsBefore (4 + processesIn s)
+    then 1 when s endsBefore (sharePlace (processesIn s))
     then 3 when any (ltb longestScript) (recordIn s .shares)
 
 abbrev pub section3 : List ℕ → ℕ
 section3 s =
-    1 when s endsBefore (6 + processesIn s)
+    1 when s endsBefore (callPlace (processesIn s) 0)
     then 4 when not (eqb (callsIn s) (callsBefore s (processesIn s)))
     then 1 when s endsBefore (callPlace (processesIn s) (callsIn s))
     then firstOf (wrongAt s (processesIn s)) (callsIn s)

@@ -2,7 +2,7 @@
 // these functions, and those of the other sections, as the slice without its first byte.
 ghost use mathlib.Core.Path.{_≡_};
 ghost use Prim.Native.Nat.{_<_};
-ghost use Rattle.runfile.specs.File.{lengthAt, callsBefore, callPlace, stepPlace, callsIn, stepsIn};
+ghost use Rattle.runfile.specs.File.{sharePlace, lengthAt, callsBefore, callPlace, stepPlace, callsIn, stepsIn};
 ghost use Rattle.runfile.specs.inner.Counts.{shapeIn};
 use crate::Shape;
 use base::byte_at;
@@ -10,6 +10,13 @@ use base::number_at;
 use base::u8_to_u16;
 use base::u8_to_usize;
 use base::u16_to_usize;
+
+// Where W, C and P stand.
+pub(crate) const WIDTH_PLACE: usize = 1;
+
+pub(crate) const SIZE_PLACE: usize = 2;
+
+pub(crate) const PROCESSES_PLACE: usize = 3;
 
 impl Shape {
     // Where the bytes of the schedule begin, and where they end.
@@ -26,11 +33,18 @@ impl Shape {
     }
 }
 
+// Where the script length of process p stands; that of process P would stand where section 3 begins.
+pub(crate) fn share_place(p: u8) -> usize
+    ensures { λ r. ⌜ (r ≡ sharePlace p) × (r < 1000) ⌝ }
+{
+    4 + u8_to_usize(p)
+}
+
 // The script length of process p.
 pub fn length_at(file: &[u8], p: u8) -> u8
     ensures { λ r. ⌜ r ≡ lengthAt (now (file .entry)) p ⌝ }
 {
-    byte_at(file, 4 + u8_to_usize(p))
+    byte_at(file, share_place(p))
 }
 
 // How many calls stand before those of process p: the sum of the script lengths below p.
@@ -58,13 +72,14 @@ pub(crate) fn call_place(processes: u8, k: u16) -> usize
 fn calls_in(file: &[u8]) -> u16
     ensures { λ r. ⌜ r ≡ callsIn (now (file .entry)) ⌝ }
 {
-    number_at(file, 4 + u8_to_usize(byte_at(file, 3)))
+    let processes = byte_at(file, PROCESSES_PLACE);
+    number_at(file, share_place(processes))
 }
 
 fn steps_in(file: &[u8]) -> u16
     ensures { λ r. ⌜ r ≡ stepsIn (now (file .entry)) ⌝ }
 {
-    let processes = byte_at(file, 3);
+    let processes = byte_at(file, PROCESSES_PLACE);
     let calls = calls_in(file);
     let at = call_place(processes, calls);
     number_at(file, at)
@@ -75,9 +90,9 @@ pub(crate) fn shape_in(file: &[u8]) -> Shape
     ensures { λ r. ⌜ r ≡ shapeIn (now (file .entry)) ⌝ }
 {
     Shape {
-        width: byte_at(file, 1),
-        size: byte_at(file, 2),
-        processes: byte_at(file, 3),
+        width: byte_at(file, WIDTH_PLACE),
+        size: byte_at(file, SIZE_PLACE),
+        processes: byte_at(file, PROCESSES_PLACE),
         calls: calls_in(file),
         steps: steps_in(file),
     }

@@ -13,11 +13,13 @@ use crate::MOST_SIZE;
 use crate::MOST_WIDTH;
 use crate::SECTION_COUNT;
 use crate::calls::first_wrong;
+use crate::places::PROCESSES_PLACE;
+use crate::places::SIZE_PLACE;
+use crate::places::WIDTH_PLACE;
 use crate::places::call_place;
 use crate::places::calls_before;
 use crate::places::shape_in;
-use base::byte_at;
-use base::u8_to_usize;
+use crate::places::share_place;
 
 // The number where the test holds, else 0.
 fn when(number: u8, test: bool) -> u8
@@ -61,31 +63,35 @@ fn section_1(file: &[u8]) -> u8
     if file[0] != SECTION_COUNT {
         return 2;
     }
-    if file.len() < 3 {
+    if file.len() < PROCESSES_PLACE {
         return 1;
     }
-    if is_outside(1, MOST_WIDTH, file[1]) {
+    if is_outside(1, MOST_WIDTH, file[WIDTH_PLACE]) {
         return 2;
     }
-    when(2, is_outside(1, MOST_SIZE, file[2]))
+    when(2, is_outside(1, MOST_SIZE, file[SIZE_PLACE]))
 }
 
 // Section 2: P, then the script lengths.
 fn section_2(file: &[u8]) -> u8
     ensures { λ r. ⌜ r ≡ section2 (now (file .entry)) ⌝ }
 {
-    if file.len() < 4 {
+    let counted = share_place(0);
+    if file.len() < counted {
         return 1;
     }
-    let processes = file[3];
+    let processes = file[PROCESSES_PLACE];
     if is_outside(1, MOST_PROCESSES, processes) {
         return 3;
     }
-    let shares = u8_to_usize(processes);
-    if file.len() < 4 + shares {
+    let ended = share_place(processes);
+    if file.len() < ended {
         return 1;
     }
-    when(3, reaches(file, 4, shares, LONGEST_SCRIPT + 1))
+    when(
+        3,
+        reaches(file, counted, ended - counted, LONGEST_SCRIPT + 1),
+    )
 }
 
 // Section 3: the number of calls, then the calls from the front.

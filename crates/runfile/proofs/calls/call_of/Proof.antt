@@ -18,10 +18,14 @@ returns-4 : tie.Need-returns-4
 returns-4 c = rw (c .before .match .keys2, ne-eqb _ _ (c .if2 .left))
 
 returns-5 : tie.Need-returns-5
-returns-5 c = rw (c .before .match .keys3, lt-ltb (c .before .before .before .args .argument) (c .before .before .before .args .processes) (omega arith))
+returns-5 c =
+    let a = c .before .before .before .args in
+    rw (c .before .match .keys3, lt-ltb (a .argument) (a .processes) (omega arith))
 
 returns-6 : tie.Need-returns-6
-returns-6 c = rw (c .before .match .keys3, le-ltb (c .before .before .before .args .argument) (c .before .before .before .args .processes) (omega arith))
+returns-6 c =
+    let a = c .before .before .before .args in
+    rw (c .before .match .keys3, le-ltb (a .argument) (a .processes) (omega arith))
 
 returns-7 : tie.Need-returns-7
 returns-7 c = rw (ne-eqb _ _ (c .match .rest .0 .0 .1), ne-eqb _ _ (c .match .rest .0 .1), ne-eqb _ _ (c .match .rest .1))

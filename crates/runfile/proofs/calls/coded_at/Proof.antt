@@ -8,7 +8,9 @@ use Rattle.runfile.proofs.calls.call_of.Reads as call-of-reads
 use Rattle.runfile.proofs.places.call_place.Reads as call-place-reads
 
 returns : tie.Need-returns
-returns c = rw (c .call-of .ensures, c .before .number-at .ensures, c .before .before .byte-at .ensures, c .before .before .before .call-place .ensures .0)
+returns c =
+    let b = c .before .before in
+    rw (c .call-of .ensures, c .before .number-at .ensures, b .byte-at .ensures, b .before .call-place .ensures .0)
 
 pub coded-at-spec : {M : Type 1} → statement M
 coded-at-spec =

@@ -11,7 +11,8 @@ use Rattle.runfile.proofs.calls.pushed_earlier.Statement.{statement}
 use Rattle.runfile.proofs.calls.pushed_earlier.Tie as tie
 
 abbrev Inv-loop : tie.InvT-loop
-Inv-loop file processes k node j₀ j = (any (pushes node) (drop j (firstCalls file processes k)) ≡ any (pushes node) (firstCalls file processes k)) × (j ≤ k)
+Inv-loop file processes k node j₀ j =
+    (any (pushes node) (drop j (firstCalls file processes k)) ≡ any (pushes node) (firstCalls file processes k)) × (j ≤ k)
 
 abbrev μ-loop : tie.MeasureT-loop
 μ-loop file processes k node j₀ j = k - j
@@ -26,17 +27,15 @@ returns : tie.Need-returns Inv-loop μ-loop
 returns c =
     let a = c .before .before .before .before .before .args in
     let l = c .before .before .before .loop in
-    earlier-found (a .file .now) (a .processes) (a .k) (a .node) (l .j) (c .before .before .loop-test .taken) (sym (c .before .pushes-at .ensures) ∙ c .if1 .taken)
-    ∙ l .inv .0
+    let found = sym (c .before .pushes-at .ensures) ∙ c .if1 .taken in
+    earlier-found (a .file .now) (a .processes) (a .k) (a .node) (l .j) (c .before .before .loop-test .taken) found ∙ l .inv .0
 
 loop-again : tie.Need-loop-again Inv-loop μ-loop
 loop-again c =
     let a = c .before .before .before .before .before .args in
-    let l = c .before .before .before .loop in (
-      earlier-next (a .file .now) (a .processes) (a .k) (a .node) (l .j) (c .before .before .loop-test .taken) (sym (c .before .pushes-at .ensures) ∙ c .if1 .left)
-          ∙ l .inv .0,
-      search needs,
-    )
+    let l = c .before .before .before .loop in
+    let other = sym (c .before .pushes-at .ensures) ∙ c .if1 .left in
+    (earlier-next (a .file .now) (a .processes) (a .k) (a .node) (l .j) (c .before .before .loop-test .taken) other ∙ l .inv .0, search needs)
 
 returns-2 : tie.Need-returns-2 Inv-loop μ-loop
 returns-2 c =

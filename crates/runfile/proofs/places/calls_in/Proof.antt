@@ -4,12 +4,11 @@ use Rattle.runfile.proofs.places.calls_in.Statement.{statement}
 use Rattle.runfile.proofs.places.calls_in.Tie as tie
 use Rattle.base.proofs.byte_at.Reads as byte-at-reads
 use Rattle.base.proofs.number_at.Reads as number-at-reads
-use Rattle.base.proofs.u8_to_usize.Reads as u8-to-usize-reads
+use Rattle.runfile.proofs.places.share_place.Reads as share-place-reads
 
 returns : tie.Need-returns
-returns c = rw (c .number-at .ensures, c .before .u8-to-usize .ensures .0, c .before .before .byte-at .ensures)
+returns c = rw (c .number-at .ensures, c .before .share-place .ensures .0, c .before .before .byte-at .ensures)
 
 pub calls-in-spec : {M : Type 1} → statement M
 calls-in-spec =
-    tie.close
-    (tie.spec (λ c κs. search needs) (λ c κs. search needs) (λ c. search needs) (λ c κs. search needs) returns)
+    tie.close (tie.spec (λ c κs. search needs) (λ c κs. search needs) (λ c κs. search needs) returns)

@@ -24,14 +24,16 @@ returns c =
     let start = c .before .before .before .before in
     let a = start .args in
     let l = c .before .before .before .loop in
-    part-found (a .file .now) (a .from) (a .count) (a .limit) (start .pre) (l .i) (c .before .before .loop-test .taken) (c .if1 .taken) ∙ l .inv .0
+    let more = c .before .before .loop-test .taken in
+    part-found (a .file .now) (a .from) (a .count) (a .limit) (start .pre) (l .i) more (c .if1 .taken) ∙ l .inv .0
 
 loop-again : tie.Need-loop-again Inv-loop μ-loop
 loop-again c =
     let start = c .before .before .before .before in
     let a = start .args in
     let l = c .before .before .before .loop in
-    (part-next (a .file .now) (a .from) (a .count) (a .limit) (start .pre) (l .i) (c .before .before .loop-test .taken) (c .if1 .left) ∙ l .inv .0, search needs)
+    let more = c .before .before .loop-test .taken in
+    (part-next (a .file .now) (a .from) (a .count) (a .limit) (start .pre) (l .i) more (c .if1 .left) ∙ l .inv .0, search needs)
 
 returns-2 : tie.Need-returns-2 Inv-loop μ-loop
 returns-2 c =

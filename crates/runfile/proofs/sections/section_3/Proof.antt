@@ -1,6 +1,5 @@
 -- The tests are those of `section3`, in its order.
 use mathlib.Core.Path.{_≡_, sym, ap, _∙_}
-use Prim.Native.Nat.{_+_}
 use native.Mathlib.Omega.{arith}
 use borrow.Author.Tests.{lt-ltb, le-ltb, eq-eqb, ne-eqb}
 use lib.ListN.{length}
@@ -21,7 +20,7 @@ returns c =
     let e = c .before .before .shape-in .ensures in
     let p : c .before .before .shape-in .result .processes ≡ processesIn s = ap (λ (x : Shape). x .processes) e in
     let n : c .before .before .shape-in .result .calls ≡ callsIn s = ap (λ (x : Shape). x .calls) e in
-    rw (lt-ltb (length s) (6 + processesIn s) (omega (arith, p, c .before .call-place .ensures, c .if1 .taken)))
+    rw (lt-ltb (length s) (callPlace (processesIn s) 0) (omega (arith, p, c .before .call-place .ensures, c .if1 .taken)))
 
 returns-2 : tie.Need-returns-2
 returns-2 c =
@@ -33,7 +32,7 @@ returns-2 c =
     let n : c1 .before .before .shape-in .result .calls ≡ callsIn s = ap (λ (x : Shape). x .calls) e in
     let m = c .before .before .calls-before .ensures ∙ ap (callsBefore s) p in
     rw (
-      le-ltb (length s) (6 + processesIn s) (omega (arith, p, c1 .before .call-place .ensures, c1 .if1 .left)),
+      le-ltb (length s) (callPlace (processesIn s) 0) (omega (arith, p, c1 .before .call-place .ensures, c1 .if1 .left)),
       ne-eqb _ _ (λ z. c .if2 .taken (n ∙ z ∙ sym m)),
     )
 
@@ -48,7 +47,7 @@ returns-3 c =
     let n : c1 .before .before .shape-in .result .calls ≡ callsIn s = ap (λ (x : Shape). x .calls) e in
     let m = c2 .before .before .calls-before .ensures ∙ ap (callsBefore s) p in
     rw (
-      le-ltb (length s) (6 + processesIn s) (omega (arith, p, c1 .before .call-place .ensures, c1 .if1 .left)),
+      le-ltb (length s) (callPlace (processesIn s) 0) (omega (arith, p, c1 .before .call-place .ensures, c1 .if1 .left)),
       eq-eqb _ _ (sym n ∙ c2 .if2 .left ∙ m),
       lt-ltb (length s) (callPlace (processesIn s) (callsIn s)) (omega (arith, p, n, c .before .call-place2 .ensures, c .if3 .taken)),
     )
@@ -65,7 +64,7 @@ returns-4 c =
     let n : c1 .before .before .shape-in .result .calls ≡ callsIn s = ap (λ (x : Shape). x .calls) e in
     let m = c2 .before .before .calls-before .ensures ∙ ap (callsBefore s) p in
     rw (
-      le-ltb (length s) (6 + processesIn s) (omega (arith, p, c1 .before .call-place .ensures, c1 .if1 .left)),
+      le-ltb (length s) (callPlace (processesIn s) 0) (omega (arith, p, c1 .before .call-place .ensures, c1 .if1 .left)),
       eq-eqb _ _ (sym n ∙ c2 .if2 .left ∙ m),
       le-ltb (length s) (callPlace (processesIn s) (callsIn s)) (omega (arith, p, n, c3 .before .call-place2 .ensures, c3 .if3 .left)),
     )

@@ -65,13 +65,15 @@ returns-4 c =
     let p : c1 .before .before .shape-in .result .processes ≡ processesIn s = ap (λ (x : Shape). x .processes) e in
     let n : c1 .before .before .shape-in .result .calls ≡ callsIn s = ap (λ (x : Shape). x .calls) e in
     let m : c1 .before .before .shape-in .result .steps ≡ stepsIn s = ap (λ (x : Shape). x .steps) e in
-    let at : c1 .before .schedule-place .result ≡ stepPlace (processesIn s) (callsIn s) 0 = omega (arith, p, n, c1 .before .schedule-place .ensures) in
+    let at : c1 .before .schedule-place .result ≡ stepPlace (processesIn s) (callsIn s) 0 =
+    omega (arith, p, n, c1 .before .schedule-place .ensures) in
     let count : c3 .before .schedule-end .result - c1 .before .schedule-place .result ≡ stepsIn s =
     omega (arith, m, c1 .before .schedule-place .ensures, c3 .before .schedule-end .ensures) in
     rw (
       le-ltb (length s) (stepPlace (processesIn s) (callsIn s) 0) (omega (arith, p, n, c1 .before .schedule-place .ensures, c1 .if1 .left)),
       le-ltb longestSchedule (stepsIn s) (omega (arith, m, c2 .if2 .left)),
-      le-ltb (length s) (stepPlace (processesIn s) (callsIn s) (stepsIn s)) (omega (arith, p, n, m, c3 .before .schedule-end .ensures, c3 .if3 .left)),
+      le-ltb (length s) (stepPlace (processesIn s) (callsIn s) (stepsIn s))
+          (omega (arith, p, n, m, c3 .before .schedule-end .ensures, c3 .if3 .left)),
     )
     (c .when .ensures ∙ rw (c .before .reaches .ensures, count, at, p))
 
