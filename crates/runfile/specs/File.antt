@@ -62,6 +62,9 @@ processesIn s = byteAt s 3
 abbrev pub sharePlace : ℕ → ℕ
 sharePlace p = 4 + p
 
+abbrev pub sharesEnd : List ℕ → ℕ
+sharesEnd s = sharePlace (processesIn s)
+
 abbrev pub lengthAt : List ℕ → ℕ → ℕ
 lengthAt s p = byteAt s (sharePlace p)
 
@@ -74,10 +77,16 @@ callsBefore s p = sum (firstLengths s p)
 
 -- Section 3: the number of calls, then each call in three bytes, a code and an argument.
 abbrev pub callsIn : List ℕ → ℕ
-callsIn s = numberAt s (sharePlace (processesIn s))
+callsIn s = numberAt s (sharesEnd s)
 
 abbrev pub callPlace : ℕ → ℕ → ℕ
 callPlace processes k = 6 + processes + 3 * k
+
+abbrev pub callsStart : List ℕ → ℕ
+callsStart s = callPlace (processesIn s) 0
+
+abbrev pub callsEnd : List ℕ → ℕ
+callsEnd s = callPlace (processesIn s) (callsIn s)
 
 -- 1 and a node; 2 and 0; 3 and a queue number below P; else the number that refuses it
 abbrev pub callOf : ℕ → ℕ → ℕ → Coded
@@ -103,10 +112,16 @@ firstCalls s processes n = listOf n (callAt s processes)
 
 -- Section 4: the schedule's length, then a byte per step.
 abbrev pub stepsIn : List ℕ → ℕ
-stepsIn s = numberAt s (callPlace (processesIn s) (callsIn s))
+stepsIn s = numberAt s (callsEnd s)
 
 abbrev pub stepPlace : ℕ → ℕ → ℕ → ℕ
 stepPlace processes calls k = callPlace processes calls + 2 + k
+
+abbrev pub stepsStart : List ℕ → ℕ
+stepsStart s = stepPlace (processesIn s) (callsIn s) 0
+
+abbrev pub stepsEnd : List ℕ → ℕ
+stepsEnd s = stepPlace (processesIn s) (callsIn s) (stepsIn s)
 
 -- what the bytes of a good file say
 abbrev pub recordIn : List ℕ → RunFile
@@ -115,7 +130,7 @@ recordIn s = record {
   size = sizeIn s;
   shares = firstLengths s (processesIn s);
   calls = firstCalls s (processesIn s) (callsIn s);
-  schedule = part s (stepPlace (processesIn s) (callsIn s) 0) (stepsIn s);
+  schedule = part s (stepsStart s) (stepsIn s);
 }
 
 -- The number that refuses call k, 0 for none: that of its code and argument, or 5 where an earlier call of the file pushes its node.
@@ -147,23 +162,23 @@ section1 s =
 
 abbrev pub section2 : List ℕ → ℕ
 section2 s =
-    1 when s endsBefore (sharePlace 0)
+    1 when s endsBefore sharePlace 0
     then 3 when outside 1 mostProcesses (processesIn s)
-    then 1 when s endsBefore (sharePlace (processesIn s))
+    then 1 when s endsBefore sharesEnd s
     then 3 when any (ltb longestScript) (recordIn s .shares)
 
 abbrev pub section3 : List ℕ → ℕ
 section3 s =
-    1 when s endsBefore (callPlace (processesIn s) 0)
+    1 when s endsBefore callsStart s
     then 4 when not (eqb (callsIn s) (callsBefore s (processesIn s)))
-    then 1 when s endsBefore (callPlace (processesIn s) (callsIn s))
+    then 1 when s endsBefore callsEnd s
     then firstOf (wrongAt s (processesIn s)) (callsIn s)
 
 abbrev pub section4 : List ℕ → ℕ
 section4 s =
-    1 when s endsBefore (stepPlace (processesIn s) (callsIn s) 0)
+    1 when s endsBefore stepsStart s
     then 6 when ltb longestSchedule (stepsIn s)
-    then 1 when s endsBefore (stepPlace (processesIn s) (callsIn s) (stepsIn s))
+    then 1 when s endsBefore stepsEnd s
     then 6 when any (leb (processesIn s)) (recordIn s .schedule)
 
 -- Sections 2 to 4, and the bytes after them.
@@ -172,7 +187,7 @@ laterSections s =
     section2 s
     then section3 s
     then section4 s
-    then 7 when ltb (stepPlace (processesIn s) (callsIn s) (stepsIn s)) (length s)
+    then 7 when ltb (stepsEnd s) (length s)
 
 -- the number given for a file, 0 for a good one
 abbrev pub numberOf : List ℕ → ℕ
