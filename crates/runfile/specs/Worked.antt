@@ -1,4 +1,5 @@
--- Files, each with the number that document 01 gives it: K9 to K12, and for each number a file that gives it and a neighbour that does not.
+-- Files, each with the number that document 01 gives it: K9 to K12; for each number a file that gives it and a neighbour that does not; and
+-- files with two faults.
 use mathlib.Core.Path.{_≡_, refl}
 use mathlib.Core.List.{List, [], _∷_, _++_, map}
 use Prim.Native.Nat.{ℕ}
@@ -100,9 +101,9 @@ cases =
 -- Files with two faults each: the earlier in the order of the sections decides, and in a section the earlier of its tests.
 abbrev pub orderCases : List Case
 orderCases =
-    -- P is 9, and there are calls where the lengths say none
+    -- P is 9, and the call count is 1 where the lengths say none
     gives 3 (2 ∷ 8 ∷ 4 ∷ 9 ∷ 0 ∷ 0 ∷ 0 ∷ 0 ∷ 0 ∷ 0 ∷ 0 ∷ 0 ∷ 0 ∷ 0 ∷ 1 ∷ 0 ∷ 0 ∷ []) ∷
-    -- P is 2, and its second length is missing
+    -- a script length of 33, and the second length missing
     gives 1 (2 ∷ 8 ∷ 4 ∷ 2 ∷ 33 ∷ []) ∷
     -- a script of 33 calls, and a call of code 4
     gives 3 (2 ∷ 8 ∷ 4 ∷ 1 ∷ 33 ∷ 0 ∷ 33 ∷ (4 ∷ 0 ∷ 0 ∷ (callsBytes (replicate 32 Pop) ++ (0 ∷ 0 ∷ [])))) ∷

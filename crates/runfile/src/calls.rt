@@ -28,19 +28,16 @@ fn call_of(processes: u8, code: u8, argument: u16) -> Coded
         PUSH => if argument == 0 {
             Coded::Wrong(5)
         } else {
-            let call = Call::Push(argument);
-            Coded::Right(call)
+            Coded::Right(Call::Push(argument))
         },
         POP => if argument == 0 {
-            let call = Call::Pop;
-            Coded::Right(call)
+            Coded::Right(Call::Pop)
         } else {
             Coded::Wrong(4)
         },
         TAKE => if argument < queues {
             let queue = argument as u8;
-            let call = Call::Take(queue);
-            Coded::Right(call)
+            Coded::Right(Call::Take(queue))
         } else {
             Coded::Wrong(4)
         },
