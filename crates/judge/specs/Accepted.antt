@@ -1,19 +1,19 @@
 -- The rules read aloud: when a log is accepted. This is the statement to compare with document 01, "What the judge accepts";
--- AcceptedLaws.antt has the theorem that the verdict is 0 exactly for the bytes of such a log.
+-- `judged-0` in proofs/AcceptedLaws.antt shows that the judge's number is 0 exactly for the bytes of such a log.
 use Prim.Native.Nat.{ℕ, suc, _+_, _*_, _≤_, _<_}
 use mathlib.Core.Path.{_≡_}
 use mathlib.Core.Bool.{true, false}
 use mathlib.Core.Logic.{_⊎_}
 use mathlib.Core.List.{List, [], _∷_, _++_}
-use lib.ListN.{length}
+use lib.ListN.{length, getD}
 use Rattle.log.specs.declared.Entry.{Entry}
 use Rattle.log.specs.declared.What.{What}
 use Rattle.log.specs.declared.What.the-variants.{Pushed, Full, BottomNode, BottomNil, TopNode, TopNil}
 use Rattle.log.specs.Numbers.{push, bottomPop, topPop, nil, full, noMoment, what}
-use Rattle.log.specs.Encode.{Log}
+use Rattle.log.specs.Decode.{firstEntry}
+use Rattle.log.specs.Encode.{Log, InRange, logBytes}
 use Rattle.judge.specs.Contents.{bears, before}
 use Rattle.judge.specs.Rules.{lastEnd, donePushes}
-use Rattle.judge.specs.Lists.{entryOf}
 
 -- Rule 1. Fields:
 pub record Rule1 (P : ℕ) (e : Entry) : Type 0 where
@@ -107,5 +107,16 @@ module _ (f : ℕ → Entry) (n : ℕ) where
     -- Rule 6. FULL has at least C done pushes on that queue with moments below 2 × start.
     pub rule6 : (j : ℕ) → j < n → what (f j) ≡ Full → C ≤ donePushes f n (f j .queue) (2 * f j .start)
 
+-- entry i of a list; past the end, as bytes past the end read, all numbers are 0
+abbrev pub entryOf : List Entry → ℕ → Entry
+entryOf es i = getD es i (firstEntry [])
+
 abbrev pub AcceptedLog : Log → Type 0
 AcceptedLog l = Accepted (entryOf (l .entries)) (length (l .entries)) (l .P) (l .C)
+
+-- bytes that are those of an accepted log
+pub record AcceptedBytes (bytes : List ℕ) : Type 0 where
+  pub log : Log
+  pub in-range : InRange log
+  pub accepted : AcceptedLog log
+  pub is : bytes ≡ logBytes log

@@ -1,32 +1,14 @@
--- what is right, in the order to read it
+-- Searches over indices, in which the rules are put.
 pub mod Search
+-- Which nodes a queue holds at each instant, by the calls' moments.
 pub mod Contents
+-- Document 01's six rules: when an entry breaks each.
 pub mod Rules
+-- What the judge says of a log's bytes: the contract of `judge`.
 pub mod Judge
-pub mod Lists
+-- The same rules read aloud: when a log is accepted.
 pub mod Accepted
--- shown of it
+-- Worked logs, computed.
 pub mod Worked
-pub mod Settled
-pub mod AcceptedLaws
-pub mod ListLaws
--- the terms of the code, and the laws by which it does what is right
-pub mod Order
-pub mod Replay
-pub mod Causes
-pub mod Fulls
-pub mod BoolLaws
-pub mod SearchLaws
-pub mod KindLaws
-pub mod DequeLaws
-pub mod ContentLaws
-pub mod FieldLaws
-pub mod KeptLaws
-pub mod EndLaws
-pub mod OrderLaws
-pub mod ReplayLaws
-pub mod RowLaws
-pub mod ShelfLaws
-pub mod CauseLaws
-pub mod FullLaws
-pub mod VerdictLaws
+-- Terms of the code: a reader may skip them.
+pub mod inner

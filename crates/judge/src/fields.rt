@@ -6,7 +6,7 @@ ghost use Rattle.log.specs.Decode.{entryAt};
 ghost use Rattle.judge.specs.Contents.{bears as bearsIs};
 ghost use Rattle.judge.specs.Rules.{keeps1};
 ghost use Rattle.judge.specs.Judge.{first1};
-ghost use Rattle.judge.specs.Order.{Whole};
+ghost use Rattle.judge.specs.inner.Order.{Whole};
 use crate::read::entry;
 use log::Entry;
 use log::What;

@@ -2,7 +2,7 @@
 ghost use mathlib.Core.Path.{_≡_};
 ghost use Prim.Native.Nat.{_≤_, _<_};
 ghost use Rattle.log.specs.Decode.{entryAt};
-ghost use Rattle.judge.specs.Order.{Whole};
+ghost use Rattle.judge.specs.inner.Order.{Whole};
 ghost use Rattle.judge.specs.Judge.{says, rulesOf, judgeOf};
 
 mod read; // an entry

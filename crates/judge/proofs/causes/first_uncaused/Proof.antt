@@ -11,14 +11,14 @@ use lib.ListN.{getD}
 use Rattle.log.specs.declared.What.{What}
 use Rattle.log.specs.Decode.{entryAt}
 use Rattle.log.specs.declared.Entry.{Entry}
-use Rattle.judge.specs.BoolLaws.{and-0, and-1}
+use Rattle.base.proofs.Bools.{and-0, and-1}
 use Rattle.judge.specs.Search.{first}
-use Rattle.judge.specs.SearchLaws.{first-start, first-next, first-found, first-end}
+use Rattle.judge.proofs.SearchLaws.{first-start, first-next, first-found, first-end}
 use Rattle.judge.specs.Rules.{breaks5}
-use Rattle.judge.specs.Order.{momentAt, indexAt, instant}
-use Rattle.judge.specs.Causes.{heldAfter}
-use Rattle.judge.specs.ShelfLaws.{Shelves, shelves-start, told, shelves-told}
-use Rattle.judge.specs.CauseLaws.{passed-next, nil-low, query-told, skip-told}
+use Rattle.judge.specs.inner.Order.{momentAt, indexAt, instant}
+use Rattle.judge.specs.inner.Causes.{heldAfter}
+use Rattle.judge.proofs.ShelfLaws.{Shelves, shelves-start, told, shelves-told}
+use Rattle.judge.proofs.CauseLaws.{passed-next, nil-low, query-told, skip-told}
 use Rattle.judge.proofs.causes.first_uncaused.Statement.{statement}
 use Rattle.judge.proofs.causes.first_uncaused.Tie as tie
 

@@ -5,7 +5,7 @@ use borrow.Author.Needs.{needs}
 use lib.Dec.{eqb}
 use lib.ListN.{getD}
 use Rattle.judge.specs.Search.{any}
-use Rattle.judge.specs.SearchLaws.{any-next, at-end}
+use Rattle.judge.proofs.SearchLaws.{any-next, at-end}
 use Rattle.judge.proofs.replay.added_in.Statement.{statement}
 use Rattle.judge.proofs.replay.added_in.Tie as tie
 

@@ -9,9 +9,9 @@ use lib.ListN.{getD}
 use Rattle.log.specs.Decode.{entryAt}
 use Rattle.log.specs.declared.Entry.{Entry}
 use Rattle.judge.specs.Rules.{lawfulAt}
-use Rattle.judge.specs.Order.{indexAt}
-use Rattle.judge.specs.ReplayLaws.{worst-is, none-worst}
-use Rattle.judge.specs.RowLaws.{Replayed, replay-start, told, ok-told, turn-told, wrong-is, added-low, only-le}
+use Rattle.judge.specs.inner.Order.{indexAt}
+use Rattle.judge.proofs.ReplayLaws.{worst-is, none-worst}
+use Rattle.judge.proofs.RowLaws.{Replayed, replay-start, told, ok-told, turn-told, wrong-is, added-low, only-le}
 use Rattle.judge.proofs.replay.first_unlawful.Statement.{statement}
 use Rattle.judge.proofs.replay.first_unlawful.Tie as tie
 

@@ -1,6 +1,6 @@
 -- `judge::replay::lawful` meets its contract. Each arm by what stands at that end of a part of an array.
 use borrow.Author.Needs.{needs}
-use Rattle.judge.specs.DequeLaws.{content-last, content-first, content-empty, none-last, none-first}
+use Rattle.judge.proofs.DequeLaws.{content-last, content-first, content-empty, none-last, none-first}
 use Rattle.judge.proofs.replay.lawful.Statement.{statement}
 use Rattle.judge.proofs.replay.lawful.Tie as tie
 

@@ -17,13 +17,13 @@ use Rattle.log.specs.Numbers.{what, same, bearsMoment}
 use Rattle.log.specs.NumbersLaws.{same-true}
 use Rattle.judge.specs.Contents.{bears, before, applied, dropLast, dropFirst}
 use Rattle.judge.specs.Rules.{isEmpty}
-use Rattle.judge.specs.BoolLaws.{contra, and-i, and-0, and-1}
-use Rattle.judge.specs.SearchLaws.{Found}
-use Rattle.judge.specs.ContentLaws.{before-start}
-use Rattle.judge.specs.EndLaws.{zeros}
-use Rattle.judge.specs.Order.{momentAt, indexAt, instant, Fields, Ordered}
-use Rattle.judge.specs.Causes.{heldAfter}
-use Rattle.judge.specs.ReplayLaws.{event-of, passed, instant-le, still, now-is, other-is, own-is}
+use Rattle.base.proofs.Bools.{contra, and-i, and-0, and-1}
+use Rattle.judge.proofs.SearchLaws.{Found}
+use Rattle.judge.proofs.ContentLaws.{before-start}
+use Rattle.judge.proofs.EndLaws.{zeros}
+use Rattle.judge.specs.inner.Order.{momentAt, indexAt, instant, Fields, Ordered}
+use Rattle.judge.specs.inner.Causes.{heldAfter}
+use Rattle.judge.proofs.ReplayLaws.{event-of, passed, instant-le, still, now-is, other-is, own-is}
 
 pub full-of : (c : List ℕ) → 0 < length c → isEmpty c ≡ false
 full-of [] h = absurd (omega arith)

@@ -8,7 +8,7 @@ use native.Mathlib.Decide.{ℕ-discrete}
 use borrow.Author.Tests.{lt-ltb, le-ltb, ltb-true, ltb-false}
 use lib.Dec.{ltb}
 use Rattle.judge.specs.Search.{first, any, count, lowest}
-use Rattle.judge.specs.BoolLaws.{contra, not-so, or-l, or-r, or-e, by-both}
+use Rattle.base.proofs.Bools.{contra, not-so, or-l, or-r, or-e, by-both}
 
 -- the first
 pub first-is : (p : ℕ → Bool) (i k : ℕ) → first p i k < i + k → p (first p i k) ≡ true

@@ -8,6 +8,7 @@ use native.Mathlib.Omega.{arith}
 use borrow.Author.Tests.{lt-ltb, le-ltb, ltb-true, ltb-false, le-leb, leb-true, eq-eqb, eqb-true}
 use lib.Dec.{ltb, leb, eqb}
 use lib.ListN.{length}
+use Rattle.base.specs.Bytes.{Bytes}
 use Rattle.log.specs.declared.Entry.{Entry}
 use Rattle.log.specs.declared.What.{What}
 use Rattle.log.specs.declared.What.the-variants.{Pushed, Full, BottomNode, BottomNil, TopNode, TopNil}
@@ -15,20 +16,19 @@ use Rattle.log.specs.Numbers.{bearsMoment, what, same}
 use Rattle.log.specs.NumbersLaws.{same-refl, same-true}
 use Rattle.log.specs.Decode.{sectionCountOf, processesOf, slotsOf, entryCountOf, entryAt}
 use Rattle.log.specs.Encode.{Log, sectionCount, InRange, logBytes, decoded}
-use Rattle.log.specs.EncodeLaws.{Bytes, entry-decoded, processes-decoded, slots-decoded, entry-count-decoded, whole-encoded, encode-decode, in-range}
+use Rattle.log.specs.EncodeLaws.{entry-decoded, processes-decoded, slots-decoded, entry-count-decoded, whole-encoded, encode-decode, in-range}
 use Rattle.judge.specs.declared.Verdict.{Verdict}
 use Rattle.judge.specs.Search.{first, any}
 use Rattle.judge.specs.Contents.{bears, on, before}
 use Rattle.judge.specs.Rules.{clash, momentRight, bearsAt, isEmpty, topIs, bottomIs, addedBefore, fresh, lawful, lawfulAt, inCall, emptyWithin, takesTopmost, removes, hasCause, donePushes, breaks1, breaks2, breaks3, breaks4, breaks5, breaks6}
 use Rattle.judge.specs.Judge.{says, first1, first2, first3, first4, first5, first6, worst4, orElse, rulesOf, headRight, judgeOf}
-use Rattle.judge.specs.Lists.{entryOf}
-use Rattle.judge.specs.Accepted.{Rule3, TopIs, BottomIs, Rule4, EmptyIn, RemovedIn, Accepted, AcceptedLog}
-use Rattle.judge.specs.BoolLaws.{contra, not-so, and-i, and-0, and-1, or-l, or-r, or-e, or-0, guarded, not-i, not-e, not-f}
-use Rattle.judge.specs.SearchLaws.{first-is, first-hit, first-ge, Found, any-e, any-i, none-passes, any-none, none, any-no, Hit, lowest-is, lowest-le}
-use Rattle.judge.specs.FieldLaws.{fields-back, order, order-back, moment, moment-back}
-use Rattle.judge.specs.KeptLaws.{fields-of, distinct}
-use Rattle.judge.specs.ContentLaws.{topmost}
-use Rattle.judge.specs.VerdictLaws.{headOf, says0, whole}
+use Rattle.judge.specs.Accepted.{Rule3, TopIs, BottomIs, Rule4, EmptyIn, RemovedIn, Accepted, entryOf, AcceptedLog, AcceptedBytes}
+use Rattle.base.proofs.Bools.{contra, not-so, and-i, and-0, and-1, or-l, or-r, or-e, or-0, guarded, not-i, not-e, not-f}
+use Rattle.judge.proofs.SearchLaws.{first-is, first-hit, first-ge, Found, any-e, any-i, none-passes, any-none, none, any-no, Hit, lowest-is, lowest-le}
+use Rattle.judge.proofs.FieldLaws.{fields-back, order, order-back, moment, moment-back}
+use Rattle.judge.proofs.KeptLaws.{fields-of, distinct}
+use Rattle.judge.proofs.ContentLaws.{topmost}
+use Rattle.judge.proofs.VerdictLaws.{headOf, says0, whole}
 
 -- the ends of a queue
 empty-to : (c : List ℕ) → isEmpty c ≡ true → c ≡ []
@@ -215,13 +215,6 @@ module _ (f : ℕ → Entry) (n : ℕ) where
       let z5 = passed 18 (first5 f n) _ (omega arith) (z4 .1) in
       let z6 = passed 19 (first6 f n C) (says 0 0) (omega arith) (z5 .1) in
       accepted-from P C (z1 .0) (z2 .0) (z3 .0) (z4 .0) (z5 .0) (z6 .0)
-
--- bytes that are those of an accepted log
-pub record AcceptedBytes (bytes : List ℕ) : Type 0 where
-  pub log : Log
-  pub in-range : InRange log
-  pub accepted : AcceptedLog log
-  pub is : bytes ≡ logBytes log
 
 -- the entries of a log are those that its bytes give, past its end too
 entries-are : (l : Log) → entryAt (logBytes l) ≡ entryOf (l .entries)

@@ -16,11 +16,11 @@ use Rattle.log.specs.Numbers.{push, what, same, kindOf, bearsMoment}
 use Rattle.log.specs.NumbersLaws.{same-true}
 use Rattle.judge.specs.Search.{count}
 use Rattle.judge.specs.Rules.{pushedOn, donePushes, breaks6}
-use Rattle.judge.specs.BoolLaws.{contra, and-0, and-1}
-use Rattle.judge.specs.SearchLaws.{count-next, count-le}
-use Rattle.judge.specs.FieldLaws.{what-right}
-use Rattle.judge.specs.EndLaws.{zeros}
-use Rattle.judge.specs.Fulls.{Timed}
+use Rattle.base.proofs.Bools.{contra, and-0, and-1}
+use Rattle.judge.proofs.SearchLaws.{count-next, count-le}
+use Rattle.judge.proofs.FieldLaws.{what-right}
+use Rattle.judge.proofs.EndLaws.{zeros}
+use Rattle.judge.specs.inner.Fulls.{Timed}
 
 count-cong : (p r : ℕ → Bool) (n : ℕ) → ((i : ℕ) → i < n → r i ≡ p i) → count r n ≡ count p n
 count-cong p r zero h = refl

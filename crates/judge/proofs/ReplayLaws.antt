@@ -12,10 +12,10 @@ use Rattle.log.specs.Numbers.{what}
 use Rattle.judge.specs.Contents.{bears, on, happens, eventAt, before, applied}
 use Rattle.judge.specs.Rules.{lawfulAt, breaks4}
 use Rattle.judge.specs.Judge.{worst4, first4}
-use Rattle.judge.specs.BoolLaws.{contra, and-i, and-0, and-1, not-so}
-use Rattle.judge.specs.SearchLaws.{first-is, first-hit, first-none, Hit, lowest-is, lowest-le}
-use Rattle.judge.specs.ContentLaws.{before-quiet, before-still, before-event}
-use Rattle.judge.specs.Order.{momentAt, indexAt, instant, Ordered}
+use Rattle.base.proofs.Bools.{contra, and-i, and-0, and-1, not-so}
+use Rattle.judge.proofs.SearchLaws.{first-is, first-hit, first-none, Hit, lowest-is, lowest-le}
+use Rattle.judge.proofs.ContentLaws.{before-quiet, before-still, before-event}
+use Rattle.judge.specs.inner.Order.{momentAt, indexAt, instant, Ordered}
 
 module _ (f : ℕ → Entry) (n : ℕ) (keys : List ℕ) (count : ℕ) (o : Ordered f n keys count) where
   -- the key of a call with a moment

@@ -17,13 +17,13 @@ use Rattle.log.specs.NumbersLaws.{same-true}
 use Rattle.judge.specs.Search.{any}
 use Rattle.judge.specs.Contents.{bears, before, applied}
 use Rattle.judge.specs.Rules.{addedBefore, fresh, lawful, lawfulAt, breaks4}
-use Rattle.judge.specs.BoolLaws.{contra, and-i, and-0, and-1, by-both}
-use Rattle.judge.specs.SearchLaws.{Found, any-e, any-i}
-use Rattle.judge.specs.DequeLaws.{content-push, content-bottom, content-top, content-none, none-bottom, none-top}
-use Rattle.judge.specs.ContentLaws.{before-start}
-use Rattle.judge.specs.Order.{indexAt, instant, Fields, Ordered}
-use Rattle.judge.specs.Replay.{loAfter, hiAfter}
-use Rattle.judge.specs.ReplayLaws.{event-of, passed-back, now-is, other-is, own-is}
+use Rattle.base.proofs.Bools.{contra, and-i, and-0, and-1, by-both}
+use Rattle.judge.proofs.SearchLaws.{Found, any-e, any-i}
+use Rattle.judge.proofs.DequeLaws.{content-push, content-bottom, content-top, content-none, none-bottom, none-top}
+use Rattle.judge.proofs.ContentLaws.{before-start}
+use Rattle.judge.specs.inner.Order.{indexAt, instant, Fields, Ordered}
+use Rattle.judge.specs.inner.Replay.{loAfter, hiAfter}
+use Rattle.judge.proofs.ReplayLaws.{event-of, passed-back, now-is, other-is, own-is}
 
 module _ (l : List ℕ) (lo hi i v : ℕ) where
   -- a store past a part, and one before it

@@ -12,7 +12,7 @@ use Rattle.log.specs.Decode.{sectionCountOf, processesOf, slotsOf, entryCountOf
 use Rattle.log.specs.Encode.{sectionCount}
 use Rattle.judge.specs.declared.Verdict.{Verdict}
 use Rattle.judge.specs.Judge.{says, first1, first2, first3, first4, first5, first6, rulesOf, headRight, judgeOf}
-use Rattle.judge.specs.BoolLaws.{and-0, and-1}
+use Rattle.base.proofs.Bools.{and-0, and-1}
 
 pub pass : (i j n : ℕ) → i ≡ j → n ≤ i → n ≤ j
 pass i j n e h = omega arith

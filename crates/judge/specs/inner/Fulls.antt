@@ -2,7 +2,7 @@
 use Prim.Native.Nat.{ℕ, _<_}
 use Rattle.log.specs.declared.Entry.{Entry}
 use Rattle.judge.specs.Accepted.{Rule2, Rule3}
-use Rattle.judge.specs.Order.{Fields}
+use Rattle.judge.specs.inner.Order.{Fields}
 
 -- rules 1 to 3 are kept
 pub record Timed (f : ℕ → Entry) (n : ℕ) : Type 0 where

@@ -11,10 +11,10 @@ use Rattle.judge.specs.Contents.{bears}
 use Rattle.judge.specs.Rules.{keeps1, breaks1, clash, breaks2, momentRight, bearsAt, breaks3}
 use Rattle.judge.specs.Judge.{first1, first2, first3}
 use Rattle.judge.specs.Accepted.{Rule1, Rule2, Rule3}
-use Rattle.judge.specs.BoolLaws.{contra, and-i, or-0, or-1, not-f}
-use Rattle.judge.specs.SearchLaws.{none-passes, any-none}
-use Rattle.judge.specs.FieldLaws.{fields, order, moment}
-use Rattle.judge.specs.Order.{Fields}
+use Rattle.base.proofs.Bools.{contra, and-i, or-0, or-1, not-f}
+use Rattle.judge.proofs.SearchLaws.{none-passes, any-none}
+use Rattle.judge.proofs.FieldLaws.{fields, order, moment}
+use Rattle.judge.specs.inner.Order.{Fields}
 
 -- moments that are borne differ
 abbrev pub Distinct : (ℕ → Entry) → ℕ → Type 0

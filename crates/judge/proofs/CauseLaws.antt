@@ -17,13 +17,13 @@ use Rattle.log.specs.NumbersLaws.{same-true}
 use Rattle.judge.specs.Search.{first, any}
 use Rattle.judge.specs.Contents.{bears, on, before, applied}
 use Rattle.judge.specs.Rules.{isEmpty, inCall, emptyWithin, takesTopmost, removes, hasCause, breaks5}
-use Rattle.judge.specs.BoolLaws.{contra, and-i, and-0, and-1, or-l, or-r, or-e, by-both, not-i, not-e, not-so}
-use Rattle.judge.specs.SearchLaws.{first-is, first-hit, first-ge, any-e, any-i}
-use Rattle.judge.specs.ContentLaws.{topmost, last-one}
-use Rattle.judge.specs.Order.{momentAt, instant, Fields, Ordered}
-use Rattle.judge.specs.Causes.{uncausedBy, Clean}
-use Rattle.judge.specs.ReplayLaws.{event-of, passed, still, now-is, own-is}
-use Rattle.judge.specs.ShelfLaws.{Shelf, takes, Shelves, full-of, empty-of}
+use Rattle.base.proofs.Bools.{contra, and-i, and-0, and-1, or-l, or-r, or-e, by-both, not-i, not-e, not-so}
+use Rattle.judge.proofs.SearchLaws.{first-is, first-hit, first-ge, any-e, any-i}
+use Rattle.judge.proofs.ContentLaws.{topmost, last-one}
+use Rattle.judge.specs.inner.Order.{momentAt, instant, Fields, Ordered}
+use Rattle.judge.specs.inner.Causes.{uncausedBy, Clean}
+use Rattle.judge.proofs.ReplayLaws.{event-of, passed, still, now-is, own-is}
+use Rattle.judge.proofs.ShelfLaws.{Shelf, takes, Shelves, full-of, empty-of}
 
 module _ (f : ℕ → Entry) (n : ℕ) (keys : List ℕ) (count : ℕ) (o : Ordered f n keys count) (fields : Fields f n) (k : ℕ) (within : k ≤ count)
     (held filled took : List ℕ) (s : Shelves f n keys k held filled took) (e : Entry) (queue-low : e .queue < 8) (forward : e .start ≤ e .end)
