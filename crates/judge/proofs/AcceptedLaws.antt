@@ -18,13 +18,13 @@ use Rattle.log.specs.Decode.{sectionCountOf, processesOf, slotsOf, entryCountOf
 use Rattle.log.specs.Encode.{Log, sectionCount, InRange, logBytes, decoded}
 use Rattle.log.specs.EncodeLaws.{entry-decoded, processes-decoded, slots-decoded, entry-count-decoded, whole-encoded, encode-decode, in-range}
 use Rattle.judge.specs.declared.Verdict.{Verdict}
-use Rattle.judge.specs.Search.{first, any}
+use Rattle.judge.specs.Search.{any}
 use Rattle.judge.specs.Contents.{bears, on, before}
 use Rattle.judge.specs.Rules.{clash, momentRight, bearsAt, isEmpty, topIs, bottomIs, addedBefore, fresh, lawful, lawfulAt, inCall, emptyWithin, takesTopmost, removes, hasCause, donePushes, breaks1, breaks2, breaks3, breaks4, breaks5, breaks6}
 use Rattle.judge.specs.Judge.{says, first1, first2, first3, first4, first5, first6, worst4, orElse, rulesOf, headRight, judgeOf}
 use Rattle.judge.specs.Accepted.{Rule3, TopIs, BottomIs, Rule4, EmptyIn, RemovedIn, Accepted, entryOf, AcceptedLog, AcceptedBytes}
 use Rattle.base.proofs.Bools.{contra, not-so, and-i, and-0, and-1, or-l, or-r, or-e, or-0, guarded, not-i, not-e, not-f}
-use Rattle.judge.proofs.SearchLaws.{first-is, first-hit, first-ge, Found, any-e, any-i, none-passes, any-none, none, any-no, Hit, lowest-is, lowest-le}
+use Rattle.judge.proofs.SearchLaws.{from-i, from-e, Found, any-e, any-i, none-passes, any-none, none, any-no, Hit, lowest-is, lowest-le}
 use Rattle.judge.proofs.FieldLaws.{fields-back, order, order-back, moment, moment-back}
 use Rattle.judge.proofs.KeptLaws.{fields-of, distinct}
 use Rattle.judge.proofs.ContentLaws.{topmost}
@@ -100,9 +100,7 @@ module _ (f : ℕ → Entry) (n : ℕ) where
     emptyAfter x = isEmpty (before f n (e .queue) (suc x))
 
     cause-from : EmptyIn f n e ⊎ RemovedIn f n e → hasCause f n e ≡ true
-    cause-from (inl z) =
-        let k = first-hit emptyAfter lo (suc hi - lo) (z .instant) (z .from) (omega (arith, z .from, z .to)) (ap isEmpty (z .empty)) in
-        or-l empty taken (lt-ltb (first emptyAfter lo (suc hi - lo)) (suc hi) (omega (arith, z .to)))
+    cause-from (inl z) = or-l empty taken (from-i emptyAfter lo hi (z .instant) (z .from) (z .to) (ap isEmpty (z .empty)))
     cause-from (inr z) =
         let d = f (z .by) in
         or-r empty taken (any-i (λ k. removes f n e (f k)) n (z .by) (z .below)
@@ -123,15 +121,8 @@ module _ (f : ℕ → Entry) (n : ℕ) where
     cause-to : hasCause f n e ≡ true → EmptyIn f n e ⊎ RemovedIn f n e
     cause-to h = or-e empty taken h
         (λ s.
-        let x = first emptyAfter lo (suc hi - lo) in
-        let u : x < suc hi = ltb-true x (suc hi) s in
-        let g = first-ge emptyAfter lo (suc hi - lo) in
-        inl (record {
-          instant = x;
-          from = g;
-          to = omega arith;
-          empty = empty-to (before f n (e .queue) (suc x)) (first-is emptyAfter lo (suc hi - lo) (omega arith));
-        }))
+        let x = from-e emptyAfter lo hi s in
+        inl (record { instant = x .0; from = x .1; to = x .2; empty = empty-to (before f n (e .queue) (suc (x .0))) (x .3) }))
         (λ s. inr (by (any-e (λ k. removes f n e (f k)) n s)))
       where
         by : Found (λ k. removes f n e (f k)) n → RemovedIn f n e
@@ -237,7 +228,6 @@ accepted-judged l r g =
 -- what stands before the rules has passed
 record HeadPassed (bytes : List ℕ) : Type 0 where
   pub head : headOf bytes ≡ true
-  pub five : 5 ≤ length bytes
   pub enough : 5 + 12 * entryCountOf bytes ≤ length bytes
   pub no-more : length bytes ≤ 5 + 12 * entryCountOf bytes
   pub rules : rulesOf (entryAt bytes) (entryCountOf bytes) (processesOf bytes) (slotsOf bytes) .number ≡ 0
@@ -257,7 +247,6 @@ head-passed bytes = by (ltb (length bytes) 5) refl (headOf bytes) refl (ltb (len
     by false a true b false c true d z = absurd (let k : _≡_ {A = ℕ} 13 0 = z in omega arith)
     by false a true b false c false d z = record {
       head = b;
-      five = ltb-false (length bytes) 5 a;
       enough = ltb-false (length bytes) (5 + 12 * entryCountOf bytes) c;
       no-more = ltb-false (5 + 12 * entryCountOf bytes) (length bytes) d;
       rules = z;

@@ -14,11 +14,11 @@ use Rattle.log.specs.declared.What.{What}
 use Rattle.log.specs.declared.What.the-variants.{BottomNode, TopNode, TopNil}
 use Rattle.log.specs.Numbers.{what, same, bearsMoment}
 use Rattle.log.specs.NumbersLaws.{same-true}
-use Rattle.judge.specs.Search.{first, any}
+use Rattle.judge.specs.Search.{any}
 use Rattle.judge.specs.Contents.{bears, on, before, applied}
 use Rattle.judge.specs.Rules.{isEmpty, inCall, emptyWithin, takesTopmost, removes, hasCause, breaks5}
 use Rattle.base.proofs.Bools.{contra, and-i, and-0, and-1, or-l, or-r, or-e, by-both, not-i, not-e, not-so}
-use Rattle.judge.proofs.SearchLaws.{first-is, first-hit, first-ge, any-e, any-i}
+use Rattle.judge.proofs.SearchLaws.{any-e, any-i, from-i, from-e}
 use Rattle.judge.proofs.ContentLaws.{topmost, last-one}
 use Rattle.judge.specs.inner.Order.{momentAt, instant, Fields, Ordered}
 use Rattle.judge.specs.inner.Causes.{uncausedBy, Clean}
@@ -60,10 +60,7 @@ module _ (f : ℕ → Entry) (n : ℕ) (keys : List ℕ) (count : ℕ) (o : Orde
   until x u v = still f n keys count o q k x within (λ w. omega (arith, past w)) u
 
   empty-i : (x : ℕ) → a ≤ x → x ≤ b → isEmpty (before f n q (suc x)) ≡ true → hasCause f n e ≡ true
-  empty-i x u v t =
-      let p : ℕ → Bool = λ x. isEmpty (before f n q (suc x)) in
-      let z = first-hit p a (suc b - a) x u (omega arith) t in
-      or-l empty taken (lt-ltb (first p a (suc b - a)) (suc b) (omega arith))
+  empty-i x u v t = or-l empty taken (from-i (λ x. isEmpty (before f n q (suc x))) a b x u v t)
 
   -- an instant at which the queue is empty
   no-empty : 0 < h → since ≤ a → (x : ℕ) → a ≤ x → x ≤ b → isEmpty (before f n q (suc x)) ≡ true → ⊥
@@ -134,11 +131,7 @@ module _ (f : ℕ → Entry) (n : ℕ) (keys : List ℕ) (count : ℕ) (o : Orde
   -- from the code's test
   to : 0 < h → since ≤ a → other ≡ false → hasCause f n e ≡ true → ⊥
   to some le none t = or-e empty taken t
-      (λ y.
-      let p : ℕ → Bool = λ x. isEmpty (before f n q (suc x)) in
-      let x = first p a (suc b - a) in
-      let u : x < suc b = ltb-true x (suc b) y in
-      no-empty some le x (first-ge p a (suc b - a)) (omega arith) (first-is p a (suc b - a) (omega arith)))
+      (λ y. let x = from-e (λ x. isEmpty (before f n q (suc x))) a b y in no-empty some le (x .0) (x .1) (x .2) (x .3))
       (λ y. let z = any-e (λ i. removes f n e (f i)) n y in how (z .at) (z .below) (z .passes) (topmost (what (f (z .at))) (before f n q (f (z .at) .moment))
       (and-1 (on q (f (z .at)) && inCall e (f (z .at) .moment) && not (eqb (f (z .at) .process) (e .process))) (takesTopmost (what (f (z .at))) (before f n q (f (z .at) .moment))) (z .passes))))
     where

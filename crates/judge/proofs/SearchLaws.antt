@@ -7,7 +7,7 @@ use native.Mathlib.Omega.{arith}
 use native.Mathlib.Decide.{ℕ-discrete}
 use borrow.Author.Tests.{lt-ltb, le-ltb, ltb-true, ltb-false}
 use lib.Dec.{ltb}
-use Rattle.judge.specs.Search.{first, any, count, lowest}
+use Rattle.judge.specs.Search.{first, any, anyFrom, count, lowest}
 use Rattle.base.proofs.Bools.{contra, not-so, or-l, or-r, or-e, by-both}
 
 -- the first
@@ -85,14 +85,6 @@ any-e p n h = let k = ltb-true (first p 0 n) n h in record { at = first p 0 n; b
 pub any-i : (p : ℕ → Bool) (n k : ℕ) → k < n → p k ≡ true → any p n ≡ true
 any-i p n k u h = let z = first-hit p 0 n k (omega arith) (omega arith) h in lt-ltb (first p 0 n) n (omega arith)
 
-pub first-ge : (p : ℕ → Bool) (i k : ℕ) → i ≤ first p i k
-first-ge p i zero = omega arith
-first-ge p i (suc k) = step (p i) (first-ge p (suc i) k)
-  where
-    step : (t : Bool) → suc i ≤ first p (suc i) k → i ≤ cond t i (first p (suc i) k)
-    step true h = omega arith
-    step false h = omega arith
-
 -- nothing was found
 pub none-passes : (p : ℕ → Bool) (n : ℕ) → n ≤ first p 0 n → (j : ℕ) → j < n → p j ≡ false
 none-passes p n h j u = not-so (p j) (λ e. let k = first-hit p 0 n j (omega arith) (omega arith) e in omega arith)
@@ -105,6 +97,17 @@ none p n h = omega (arith, first-none p 0 n (λ j a b. h j (omega arith)))
 
 pub any-no : (p : ℕ → Bool) (n : ℕ) → ((j : ℕ) → j < n → p j ≡ false) → any p n ≡ false
 any-no p n h = le-ltb (first p 0 n) n (none p n h)
+
+-- from a to b
+pub from-i : (p : ℕ → Bool) (a b x : ℕ) → a ≤ x → x ≤ b → p x ≡ true → anyFrom p a b ≡ true
+from-i p a b x u v h =
+    let e : a + (x - a) ≡ x = omega arith in
+    any-i (λ k. p (a + k)) (suc b - a) (x - a) (omega arith) (ap p e ∙ h)
+
+pub from-e : (p : ℕ → Bool) (a b : ℕ) → anyFrom p a b ≡ true → (x : ℕ) × (a ≤ x) × (x ≤ b) × (p x ≡ true)
+from-e p a b h =
+    let z = any-e (λ k. p (a + k)) (suc b - a) h in
+    (a + z .at, omega arith, omega (arith, z .below), z .passes)
 
 -- the loop of `first`: what is left is the whole
 pub first-next : (p : ℕ → Bool) (i n : ℕ) → i < n → p i ≡ false → first p (i + 1) (n - (i + 1)) ≡ first p i (n - i)

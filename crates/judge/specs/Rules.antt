@@ -1,6 +1,6 @@
 -- Document 01, "What the judge accepts": for each rule by itself, when entry j of a log breaks it. The log is f, from an
 -- entry's index to the entry, with n entries, P processes and C slots. A rule is asked only of logs that keep the earlier ones.
-use Prim.Native.Nat.{ℕ, suc, _+_, _-_, _*_}
+use Prim.Native.Nat.{ℕ, suc, _+_, _*_}
 use mathlib.Core.Bool.{Bool, true, false, cond, _&&_, _||_, not, Bool·beq}
 use mathlib.Core.List.{List, [], _∷_}
 use lib.ListN.{length}
@@ -9,7 +9,7 @@ use Rattle.log.specs.declared.Entry.{Entry}
 use Rattle.log.specs.declared.What.{What}
 use Rattle.log.specs.declared.What.the-variants.{Pushed, Full, BottomNode, BottomNil, TopNode, TopNil}
 use Rattle.log.specs.Numbers.{push, bottomPop, topPop, nil, full, noMoment, what, same}
-use Rattle.judge.specs.Search.{first, any, count}
+use Rattle.judge.specs.Search.{any, anyFrom, count}
 use Rattle.judge.specs.Contents.{bears, on, before}
 
 -- RULE 1. Fields: process and queue below P; kind 1 to 3, result 0 to 2; a push or bottom pop on its own queue; result 2
@@ -122,8 +122,9 @@ breaks4 f n j = bears (f j) && not (lawfulAt f n (f j))
 
 -- RULE 5. A top pop with NIL has, from moment 2 × start to 2 × end + 1, an instant at which its queue is empty (after all
 -- moments up to it), or a removal of the topmost node by another process.
+-- the queue is empty at an instant x from a to b
 abbrev pub emptyWithin : (ℕ → Entry) → ℕ → ℕ → ℕ → ℕ → Bool
-emptyWithin f n q a b = ltb (first (λ x. isEmpty (before f n q (suc x))) a (suc b - a)) (suc b)
+emptyWithin f n q a b = anyFrom (λ x. isEmpty (before f n q (suc x))) a b
 
 -- a removal of the topmost node from c: by a pop at the top, or at the bottom where there is one node
 abbrev pub takesTopmost : What → List ℕ → Bool

@@ -1,5 +1,5 @@
 -- Searches over indices: the first that passes a test, whether one does, how many do, and the lowest key of those that do.
-use Prim.Native.Nat.{ℕ, zero, suc, _+_}
+use Prim.Native.Nat.{ℕ, zero, suc, _+_, _-_}
 use mathlib.Core.Bool.{Bool, cond, _&&_}
 use lib.Dec.{ltb}
 
@@ -11,6 +11,10 @@ first p i (suc k) = cond (p i) i (first p (suc i) k)
 -- whether one below n passes
 abbrev pub any : (ℕ → Bool) → ℕ → Bool
 any p n = ltb (first p 0 n) n
+
+-- whether one of a, a + 1, .. b passes
+abbrev pub anyFrom : (ℕ → Bool) → ℕ → ℕ → Bool
+anyFrom p a b = any (λ k. p (a + k)) (suc b - a)
 
 -- how many below n pass
 abbrev pub count : (ℕ → Bool) → ℕ → ℕ
