@@ -131,6 +131,8 @@ worked =
     -- the first by moment, which stands later in the file; and the other way round
     ∷ gives 17 1 2 4 (call 0 0 BottomNode 9 0 5 10 ∷ call 1 1 BottomNode 8 0 6 2 ∷ [])
     ∷ gives 17 0 2 4 (call 0 0 BottomNode 9 0 5 2 ∷ call 1 1 BottomNode 8 0 6 10 ∷ [])
+    -- two entries at odds with a queue that holds 7: the first by moment stands later in the file
+    ∷ gives 17 2 2 4 (call 0 0 Pushed 7 0 2 4 ∷ call 0 0 BottomNode 9 3 9 18 ∷ call 1 0 TopNode 8 3 10 8 ∷ [])
     -- 18: a race claimed, and no removal in the window
     ∷ gives 18 2 2 4 (after-two (call 1 0 TopNil 0 6 13 noMoment ∷ []))
     -- a removal at the bottom that leaves the topmost node; and one that takes it
@@ -148,6 +150,20 @@ worked =
     -- emptied at 2 × end + 1, and an instant after
     ∷ accepted 2 4 (call 0 0 Pushed 5 0 2 4 ∷ call 1 0 TopNil 0 6 8 noMoment ∷ call 0 0 BottomNode 5 6 9 17 ∷ [])
     ∷ gives 18 1 2 4 (call 0 0 Pushed 5 0 2 4 ∷ call 1 0 TopNil 0 6 8 noMoment ∷ call 0 0 BottomNode 5 6 9 18 ∷ [])
+    -- the rules in order: of two that are broken the earlier is named, though its entry is the later one. Rules 2 and 3,
+    ∷ gives 15 1 2 4 (call 0 0 BottomNil 0 0 2 6 ∷ call 1 1 BottomNil 0 0 2 2 ∷ [])
+    -- 2 and 6,
+    ∷ gives 15 1 2 4 (call 0 0 Full 6 0 0 noMoment ∷ call 1 1 BottomNil 0 0 0 0 ∷ [])
+    -- 3 and 4,
+    ∷ gives 16 1 1 4 (call 0 0 BottomNode 9 0 1 0 ∷ call 0 0 BottomNil 0 2 3 8 ∷ [])
+    -- 3 and 5,
+    ∷ gives 16 2 2 4 (call 0 0 Pushed 5 0 2 4 ∷ call 1 0 TopNil 0 3 4 noMoment ∷ call 0 0 BottomNode 5 5 6 20 ∷ [])
+    -- 4 and 5,
+    ∷ gives 17 2 2 4 (call 0 0 Pushed 5 0 2 4 ∷ call 1 0 TopNil 0 3 4 noMoment ∷ call 0 0 BottomNil 0 5 6 10 ∷ [])
+    -- 4 and 6,
+    ∷ gives 17 1 1 4 (call 0 0 Full 6 0 0 noMoment ∷ call 0 0 BottomNode 9 1 2 2 ∷ [])
+    -- 5 and 6
+    ∷ gives 18 2 2 2 (call 0 0 Pushed 5 0 2 4 ∷ call 0 0 Full 6 3 3 noMoment ∷ call 1 0 TopNil 0 4 5 noMoment ∷ [])
     ∷ []
 
 pub all-right : map (λ c. judgeOf (c .bytes)) worked ≡ map (λ c. c .verdict) worked
