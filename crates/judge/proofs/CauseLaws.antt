@@ -14,12 +14,12 @@ use Rattle.log.specs.declared.What.{What}
 use Rattle.log.specs.declared.What.the-variants.{BottomNode, TopNode, TopNil}
 use Rattle.log.specs.Numbers.{what, same, bearsMoment}
 use Rattle.log.specs.NumbersLaws.{same-true}
-use Rattle.judge.specs.Search.{any}
-use Rattle.judge.specs.Contents.{bears, on, before, applied}
-use Rattle.judge.specs.Rules.{isEmpty, inCall, emptyWithin, takesTopmost, removes, hasCause, breaks5}
+use Rattle.rules.specs.Search.{any}
+use Rattle.rules.specs.Contents.{bears, on, before, applied}
+use Rattle.rules.specs.Rules.{isEmpty, inCall, emptyWithin, takesTopmost, removes, hasCause, breaks5}
 use Rattle.base.proofs.Bools.{contra, and-i, and-0, and-1, or-l, or-r, or-e, by-both, not-i, not-e, not-so}
-use Rattle.judge.proofs.SearchLaws.{any-e, any-i, from-i, from-e}
-use Rattle.judge.proofs.ContentLaws.{topmost, last-one}
+use Rattle.rules.proofs.SearchLaws.{any-e, any-i, from-i, from-e}
+use Rattle.rules.proofs.ContentLaws.{topmost, last-one}
 use Rattle.judge.specs.inner.Order.{momentAt, instant, Fields, Ordered}
 use Rattle.judge.specs.inner.Causes.{uncausedBy, Clean}
 use Rattle.judge.proofs.ReplayLaws.{event-of, passed, still, now-is, own-is}

@@ -10,8 +10,8 @@ use borrow.Author.Tests.{le-leb, lt-leb}
 use lib.Dec.{eqb, leb}
 use lib.ListN.{length, getD, take, drop, set, length-take, drop-of-length-le}
 use lib.Seq.{slice, slice-cons, take-suc, take-suc-set, drop-append-le, length-take-le}
-use Rattle.judge.specs.Contents.{dropLast, dropFirst}
-use Rattle.judge.specs.Rules.{topIs, bottomIs, isEmpty}
+use Rattle.rules.specs.Contents.{dropLast, dropFirst}
+use Rattle.rules.specs.Rules.{topIs, bottomIs, isEmpty}
 
 dropLast-snoc : (c : List ℕ) (x : ℕ) → dropLast (c ++ (x ∷ [])) ≡ c
 dropLast-snoc [] x = refl

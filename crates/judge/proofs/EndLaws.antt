@@ -10,9 +10,9 @@ use lib.Dec.{eqb, ltb}
 use lib.ListN.{length, getD, set, replicate, length-set}
 use lib.Seq.{getD-set-same, getD-set-other}
 use Rattle.log.specs.declared.Entry.{Entry}
-use Rattle.judge.specs.Rules.{endsRise, startsAfter, clash, breaks2}
+use Rattle.rules.specs.Rules.{endsRise, startsAfter, clash, breaks2}
 use Rattle.base.proofs.Bools.{contra, and-i, and-0, and-1, or-e, not-so, not-i, not-e, if-so, so-if, by-both}
-use Rattle.judge.proofs.SearchLaws.{Found, any-e, any-i}
+use Rattle.rules.proofs.SearchLaws.{Found, any-e, any-i}
 
 pub zeros : (k i : ℕ) → _≡_ {A = ℕ} (getD (replicate k 0) i 0) 0
 zeros zero i = refl

@@ -14,11 +14,11 @@ use Rattle.log.specs.declared.Entry.{Entry}
 use Rattle.log.specs.declared.What.the-variants.{Pushed, Full}
 use Rattle.log.specs.Numbers.{push, what, same, kindOf, bearsMoment}
 use Rattle.log.specs.NumbersLaws.{same-true}
-use Rattle.judge.specs.Search.{count}
-use Rattle.judge.specs.Rules.{pushedOn, donePushes, breaks6}
+use Rattle.rules.specs.Search.{count}
+use Rattle.rules.specs.Rules.{pushedOn, donePushes, breaks6}
 use Rattle.base.proofs.Bools.{contra, and-0, and-1}
-use Rattle.judge.proofs.SearchLaws.{count-next, count-le}
-use Rattle.judge.proofs.FieldLaws.{what-right}
+use Rattle.rules.proofs.SearchLaws.{count-next, count-le}
+use Rattle.rules.proofs.FieldLaws.{what-right}
 use Rattle.judge.proofs.EndLaws.{zeros}
 use Rattle.judge.specs.inner.Fulls.{Timed}
 

@@ -1,14 +1,8 @@
--- The judge's number is 0 exactly for an accepted log.
-pub mod AcceptedLaws
 -- Each public function's promise settles its result.
 pub mod Settled
--- Searches, what an entry says, and what a queue holds.
-pub mod SearchLaws
+-- What an entry says, and a queue's nodes as a part of an array.
 pub mod KindLaws
 pub mod DequeLaws
-pub mod ContentLaws
-pub mod FieldLaws
-pub mod KeptLaws
 -- One rule each, as the code goes through them.
 pub mod EndLaws
 pub mod OrderLaws
@@ -17,4 +11,3 @@ pub mod RowLaws
 pub mod ShelfLaws
 pub mod CauseLaws
 pub mod FullLaws
-pub mod VerdictLaws

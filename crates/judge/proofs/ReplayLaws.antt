@@ -9,12 +9,12 @@ use borrow.Author.Tests.{eq-eqb, eqb-true}
 use lib.Dec.{eqb}
 use Rattle.log.specs.declared.Entry.{Entry}
 use Rattle.log.specs.Numbers.{what}
-use Rattle.judge.specs.Contents.{bears, on, happens, eventAt, before, applied}
-use Rattle.judge.specs.Rules.{lawfulAt, breaks4}
-use Rattle.judge.specs.Judge.{worst4, first4}
+use Rattle.rules.specs.Contents.{bears, on, happens, eventAt, before, applied}
+use Rattle.rules.specs.Rules.{lawfulAt, breaks4}
+use Rattle.rules.specs.Judge.{worst4, first4}
 use Rattle.base.proofs.Bools.{contra, and-i, and-0, and-1, not-so}
-use Rattle.judge.proofs.SearchLaws.{first-is, first-hit, first-none, Hit, lowest-is, lowest-le}
-use Rattle.judge.proofs.ContentLaws.{before-quiet, before-still, before-event}
+use Rattle.rules.proofs.SearchLaws.{first-is, first-hit, first-none, Hit, lowest-is, lowest-le}
+use Rattle.rules.proofs.ContentLaws.{before-quiet, before-still, before-event}
 use Rattle.judge.specs.inner.Order.{momentAt, indexAt, instant, Ordered}
 
 module _ (f : ℕ → Entry) (n : ℕ) (keys : List ℕ) (count : ℕ) (o : Ordered f n keys count) where

@@ -14,13 +14,13 @@ use Rattle.log.specs.declared.What.{What}
 use Rattle.log.specs.declared.What.the-variants.{Pushed, Full, BottomNode, BottomNil, TopNode, TopNil}
 use Rattle.log.specs.Numbers.{what, same, bearsMoment}
 use Rattle.log.specs.NumbersLaws.{same-true}
-use Rattle.judge.specs.Search.{any}
-use Rattle.judge.specs.Contents.{bears, before, applied}
-use Rattle.judge.specs.Rules.{addedBefore, fresh, lawful, lawfulAt, breaks4}
+use Rattle.rules.specs.Search.{any}
+use Rattle.rules.specs.Contents.{bears, before, applied}
+use Rattle.rules.specs.Rules.{addedBefore, fresh, lawful, lawfulAt, breaks4}
 use Rattle.base.proofs.Bools.{contra, and-i, and-0, and-1, by-both}
-use Rattle.judge.proofs.SearchLaws.{Found, any-e, any-i}
+use Rattle.rules.proofs.SearchLaws.{Found, any-e, any-i}
 use Rattle.judge.proofs.DequeLaws.{content-push, content-bottom, content-top, content-none, none-bottom, none-top}
-use Rattle.judge.proofs.ContentLaws.{before-start}
+use Rattle.rules.proofs.ContentLaws.{before-start}
 use Rattle.judge.specs.inner.Order.{indexAt, instant, Fields, Ordered}
 use Rattle.judge.specs.inner.Replay.{loAfter, hiAfter}
 use Rattle.judge.proofs.ReplayLaws.{event-of, passed-back, now-is, other-is, own-is}

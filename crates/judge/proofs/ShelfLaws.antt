@@ -15,11 +15,11 @@ use Rattle.log.specs.declared.What.{What}
 use Rattle.log.specs.declared.What.the-variants.{Pushed, Full, BottomNode, BottomNil, TopNode, TopNil}
 use Rattle.log.specs.Numbers.{what, same, bearsMoment}
 use Rattle.log.specs.NumbersLaws.{same-true}
-use Rattle.judge.specs.Contents.{bears, before, applied, dropLast, dropFirst}
-use Rattle.judge.specs.Rules.{isEmpty}
+use Rattle.rules.specs.Contents.{bears, before, applied, dropLast, dropFirst}
+use Rattle.rules.specs.Rules.{isEmpty}
 use Rattle.base.proofs.Bools.{contra, and-i, and-0, and-1}
-use Rattle.judge.proofs.SearchLaws.{Found}
-use Rattle.judge.proofs.ContentLaws.{before-start}
+use Rattle.rules.proofs.SearchLaws.{Found}
+use Rattle.rules.proofs.ContentLaws.{before-start}
 use Rattle.judge.proofs.EndLaws.{zeros}
 use Rattle.judge.specs.inner.Order.{momentAt, indexAt, instant, Fields, Ordered}
 use Rattle.judge.specs.inner.Causes.{heldAfter}

@@ -2,7 +2,7 @@
 ghost use mathlib.Core.Path.{_≡_};
 ghost use Prim.Native.Nat.{_≤_};
 ghost use Rattle.log.specs.Decode.{entryAt};
-ghost use Rattle.judge.specs.Judge.{first2};
+ghost use Rattle.rules.specs.Judge.{first2};
 ghost use Rattle.judge.specs.inner.Order.{Fields, Whole};
 use crate::read::entry;
 

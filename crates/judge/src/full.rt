@@ -2,7 +2,7 @@
 ghost use mathlib.Core.Path.{_≡_};
 ghost use Prim.Native.Nat.{_≤_};
 ghost use Rattle.log.specs.Decode.{entryAt};
-ghost use Rattle.judge.specs.Judge.{first6};
+ghost use Rattle.rules.specs.Judge.{first6};
 ghost use Rattle.judge.specs.inner.Order.{Whole};
 ghost use Rattle.judge.specs.inner.Fulls.{Timed};
 use crate::fields::full;

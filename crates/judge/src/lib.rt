@@ -3,7 +3,7 @@ ghost use mathlib.Core.Path.{_≡_};
 ghost use Prim.Native.Nat.{_≤_, _<_};
 ghost use Rattle.log.specs.Decode.{entryAt};
 ghost use Rattle.judge.specs.inner.Order.{Whole};
-ghost use Rattle.judge.specs.Judge.{says, rulesOf, judgeOf};
+ghost use Rattle.rules.specs.Judge.{says, rulesOf, judgeOf};
 
 mod read; // an entry
 mod fields; // rule 1
@@ -13,11 +13,7 @@ mod replay; // rule 4
 mod causes; // rule 5
 mod full; // rule 6
 
-// The number given back, and the entry at fault, from 0.
-pub struct Verdict {
-    pub number: u8,
-    pub entry: u16,
-}
+pub use rules::Verdict;
 
 fn verdict_of(number: u8, j: usize) -> Verdict
     requires { ⌜ j < 65536 ⌝ }

@@ -7,8 +7,8 @@ use borrow.Author.Tests.{not-true, not-false}
 use borrow.Author.Needs.{needs}
 use lib.ListN.{length}
 use Rattle.log.specs.Decode.{entryCountOf}
-use Rattle.judge.proofs.VerdictLaws.{headOf, head-read, rules-read, few, short, wrong, cut, long, whole}
-use Rattle.judge.specs.Judge.{headRight}
+use Rattle.rules.proofs.VerdictLaws.{headOf, head-read, rules-read, few, short, wrong, cut, long, whole}
+use Rattle.rules.specs.Judge.{headRight}
 use Rattle.judge.proofs.judge.Statement.{statement}
 use Rattle.judge.proofs.judge.Tie as tie
 

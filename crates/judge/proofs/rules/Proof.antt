@@ -3,10 +3,10 @@ use Prim.Native.Nat.{ℕ, _≤_}
 use borrow.Author.Needs.{needs}
 use Rattle.log.specs.Decode.{entryAt}
 use Rattle.log.specs.declared.Entry.{Entry}
-use Rattle.judge.specs.Judge.{first1, first2, first3, first4, first5}
+use Rattle.rules.specs.Judge.{first1, first2, first3, first4, first5}
 use Rattle.judge.specs.inner.Order.{Fields, Ordered}
-use Rattle.judge.proofs.KeptLaws.{fields-to, order-of, moments-of}
-use Rattle.judge.proofs.VerdictLaws.{pass, says0, says1, says2, says3, says4, says5, says6}
+use Rattle.rules.proofs.KeptLaws.{fields-to, order-of, moments-of}
+use Rattle.rules.proofs.VerdictLaws.{pass, says0, says1, says2, says3, says4, says5, says6}
 use Rattle.judge.proofs.rules.Statement.{statement}
 use Rattle.judge.proofs.rules.Tie as tie
 

@@ -7,7 +7,7 @@ use lib.ListN.{getD}
 use Rattle.log.specs.declared.Entry.{Entry}
 use Rattle.log.specs.declared.What.{What}
 use Rattle.log.specs.declared.What.the-variants.{Pushed, Full, BottomNode, BottomNil, TopNode, TopNil}
-use Rattle.judge.specs.Search.{any}
+use Rattle.rules.specs.Search.{any}
 use Rattle.judge.specs.inner.Order.{Fields, Ordered}
 
 -- how many nodes a lawful call leaves of so many

@@ -1,7 +1,7 @@
 -- What the count of a FULL's pushes rests on.
 use Prim.Native.Nat.{ℕ, _<_}
 use Rattle.log.specs.declared.Entry.{Entry}
-use Rattle.judge.specs.Accepted.{Rule2, Rule3}
+use Rattle.rules.specs.Accepted.{Rule2, Rule3}
 use Rattle.judge.specs.inner.Order.{Fields}
 
 -- rules 1 to 3 are kept

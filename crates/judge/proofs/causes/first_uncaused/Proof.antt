@@ -12,9 +12,9 @@ use Rattle.log.specs.declared.What.{What}
 use Rattle.log.specs.Decode.{entryAt}
 use Rattle.log.specs.declared.Entry.{Entry}
 use Rattle.base.proofs.Bools.{and-0, and-1}
-use Rattle.judge.specs.Search.{first}
-use Rattle.judge.proofs.SearchLaws.{first-start, first-next, first-found, first-end}
-use Rattle.judge.specs.Rules.{breaks5}
+use Rattle.rules.specs.Search.{first}
+use Rattle.rules.proofs.SearchLaws.{first-start, first-next, first-found, first-end}
+use Rattle.rules.specs.Rules.{breaks5}
 use Rattle.judge.specs.inner.Order.{momentAt, indexAt, instant}
 use Rattle.judge.specs.inner.Causes.{heldAfter}
 use Rattle.judge.proofs.ShelfLaws.{Shelves, shelves-start, told, shelves-told}

@@ -10,11 +10,11 @@ use lib.Dec.{ltb}
 use lib.ListN.{getD, set}
 use Rattle.log.specs.Decode.{entryAt}
 use Rattle.log.specs.declared.Entry.{Entry}
-use Rattle.judge.specs.Accepted.{Rule1}
+use Rattle.rules.specs.Accepted.{Rule1}
 use Rattle.base.proofs.Bools.{or-0, or-1}
-use Rattle.judge.proofs.SearchLaws.{first-start, first-next, first-found, first-end}
-use Rattle.judge.specs.Search.{first}
-use Rattle.judge.specs.Rules.{breaks2}
+use Rattle.rules.proofs.SearchLaws.{first-start, first-next, first-found, first-end}
+use Rattle.rules.specs.Search.{first}
+use Rattle.rules.specs.Rules.{breaks2}
 use Rattle.judge.proofs.EndLaws.{Ends, ends-start, ends-next, clash-is}
 use Rattle.judge.proofs.ends.first_clash.Statement.{statement}
 use Rattle.judge.proofs.ends.first_clash.Tie as tie

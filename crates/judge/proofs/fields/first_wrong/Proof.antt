@@ -5,9 +5,9 @@ use Prim.Native.Nat.{_-_, _≤_}
 use native.Mathlib.Omega.{arith}
 use borrow.Author.Needs.{needs}
 use Rattle.log.specs.Decode.{entryAt}
-use Rattle.judge.proofs.SearchLaws.{first-start, first-next, first-found, first-end}
-use Rattle.judge.specs.Search.{first}
-use Rattle.judge.specs.Rules.{keeps1, breaks1}
+use Rattle.rules.proofs.SearchLaws.{first-start, first-next, first-found, first-end}
+use Rattle.rules.specs.Search.{first}
+use Rattle.rules.specs.Rules.{keeps1, breaks1}
 use Rattle.judge.proofs.fields.first_wrong.Statement.{statement}
 use Rattle.judge.proofs.fields.first_wrong.Tie as tie
 

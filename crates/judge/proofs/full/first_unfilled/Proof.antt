@@ -8,9 +8,9 @@ use lib.Dec.{ltb}
 use lib.ListN.{getD}
 use Rattle.log.specs.Decode.{entryAt}
 use Rattle.log.specs.declared.Entry.{Entry}
-use Rattle.judge.specs.Search.{first}
-use Rattle.judge.proofs.SearchLaws.{first-start, first-next, first-found, first-end}
-use Rattle.judge.specs.Rules.{breaks6}
+use Rattle.rules.specs.Search.{first}
+use Rattle.rules.proofs.SearchLaws.{first-start, first-next, first-found, first-end}
+use Rattle.rules.specs.Rules.{breaks6}
 use Rattle.judge.proofs.FullLaws.{Counted, counted-start, low-told, full-told, next-told}
 use Rattle.judge.proofs.full.first_unfilled.Statement.{statement}
 use Rattle.judge.proofs.full.first_unfilled.Tie as tie

@@ -4,8 +4,8 @@ use Prim.Native.Nat.{_-_, _≤_}
 use borrow.Author.Needs.{needs}
 use lib.Dec.{eqb}
 use lib.ListN.{getD}
-use Rattle.judge.specs.Search.{any}
-use Rattle.judge.proofs.SearchLaws.{any-next, at-end}
+use Rattle.rules.specs.Search.{any}
+use Rattle.rules.proofs.SearchLaws.{any-next, at-end}
 use Rattle.judge.proofs.replay.added_in.Statement.{statement}
 use Rattle.judge.proofs.replay.added_in.Tie as tie
 

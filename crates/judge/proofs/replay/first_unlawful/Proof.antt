@@ -8,7 +8,7 @@ use borrow.Author.Tests.{not-true, not-false}
 use lib.ListN.{getD}
 use Rattle.log.specs.Decode.{entryAt}
 use Rattle.log.specs.declared.Entry.{Entry}
-use Rattle.judge.specs.Rules.{lawfulAt}
+use Rattle.rules.specs.Rules.{lawfulAt}
 use Rattle.judge.specs.inner.Order.{indexAt}
 use Rattle.judge.proofs.ReplayLaws.{worst-is, none-worst}
 use Rattle.judge.proofs.RowLaws.{Replayed, replay-start, told, ok-told, turn-told, wrong-is, added-low, only-le}

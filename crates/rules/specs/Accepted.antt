@@ -12,8 +12,8 @@ use Rattle.log.specs.declared.What.the-variants.{Pushed, Full, BottomNode, Bott
 use Rattle.log.specs.Numbers.{push, bottomPop, topPop, nil, full, noMoment, what}
 use Rattle.log.specs.Decode.{firstEntry}
 use Rattle.log.specs.Encode.{Log, InRange, logBytes}
-use Rattle.judge.specs.Contents.{bears, before}
-use Rattle.judge.specs.Rules.{lastEnd, donePushes}
+use Rattle.rules.specs.Contents.{bears, before}
+use Rattle.rules.specs.Rules.{lastEnd, donePushes}
 
 -- Rule 1. Fields:
 pub record Rule1 (P : ℕ) (e : Entry) : Type 0 where

@@ -7,7 +7,7 @@ use native.Mathlib.Omega.{arith}
 use native.Mathlib.Decide.{ℕ-discrete}
 use borrow.Author.Tests.{lt-ltb, le-ltb, ltb-true, ltb-false}
 use lib.Dec.{ltb}
-use Rattle.judge.specs.Search.{first, any, anyFrom, count, lowest}
+use Rattle.rules.specs.Search.{first, any, anyFrom, count, lowest}
 use Rattle.base.proofs.Bools.{contra, not-so, or-l, or-r, or-e, by-both}
 
 -- the first

@@ -8,7 +8,7 @@ use Rattle.log.specs.declared.Entry.{Entry}
 use Rattle.log.specs.declared.What.{What}
 use Rattle.log.specs.declared.What.the-variants.{Pushed, Full, BottomNode, BottomNil, TopNode, TopNil}
 use Rattle.log.specs.Numbers.{bearsMoment, what}
-use Rattle.judge.specs.Search.{first}
+use Rattle.rules.specs.Search.{first}
 
 -- whether the list of moments in document 01, "The log", has one for such a call
 abbrev pub bears : Entry → Bool

@@ -7,9 +7,9 @@ use lib.Dec.{eqb, ltb, leb}
 use Rattle.log.specs.declared.Entry.{Entry}
 use Rattle.log.specs.Decode.{sectionCountOf, processesOf, slotsOf, entryCountOf, entryAt}
 use Rattle.log.specs.Encode.{sectionCount}
-use Rattle.judge.specs.declared.Verdict.{Verdict}
-use Rattle.judge.specs.Search.{first, lowest}
-use Rattle.judge.specs.Rules.{breaks1, breaks2, breaks3, breaks4, breaks5, breaks6}
+use Rattle.rules.specs.declared.Verdict.{Verdict}
+use Rattle.rules.specs.Search.{first, lowest}
+use Rattle.rules.specs.Rules.{breaks1, breaks2, breaks3, breaks4, breaks5, breaks6}
 
 -- a number, and the entry at fault
 abbrev pub says : ℕ → ℕ → Verdict

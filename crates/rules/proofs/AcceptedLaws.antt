@@ -17,18 +17,18 @@ use Rattle.log.specs.NumbersLaws.{same-refl, same-true}
 use Rattle.log.specs.Decode.{sectionCountOf, processesOf, slotsOf, entryCountOf, entryAt}
 use Rattle.log.specs.Encode.{Log, sectionCount, InRange, logBytes, decoded}
 use Rattle.log.specs.EncodeLaws.{entry-decoded, processes-decoded, slots-decoded, entry-count-decoded, whole-encoded, encode-decode, in-range}
-use Rattle.judge.specs.declared.Verdict.{Verdict}
-use Rattle.judge.specs.Search.{any}
-use Rattle.judge.specs.Contents.{bears, on, before}
-use Rattle.judge.specs.Rules.{clash, momentRight, bearsAt, isEmpty, topIs, bottomIs, addedBefore, fresh, lawful, lawfulAt, inCall, emptyWithin, takesTopmost, removes, hasCause, donePushes, breaks1, breaks2, breaks3, breaks4, breaks5, breaks6}
-use Rattle.judge.specs.Judge.{says, first1, first2, first3, first4, first5, first6, worst4, orElse, rulesOf, headRight, judgeOf}
-use Rattle.judge.specs.Accepted.{Rule3, TopIs, BottomIs, Rule4, EmptyIn, RemovedIn, Accepted, entryOf, AcceptedLog, AcceptedBytes}
-use Rattle.base.proofs.Bools.{contra, not-so, and-i, and-0, and-1, or-l, or-r, or-e, or-0, guarded, not-i, not-e, not-f}
-use Rattle.judge.proofs.SearchLaws.{from-i, from-e, Found, any-e, any-i, none-passes, any-none, none, any-no, Hit, lowest-is, lowest-le}
-use Rattle.judge.proofs.FieldLaws.{fields-back, order, order-back, moment, moment-back}
-use Rattle.judge.proofs.KeptLaws.{fields-of, distinct}
-use Rattle.judge.proofs.ContentLaws.{topmost}
-use Rattle.judge.proofs.VerdictLaws.{headOf, says0, whole}
+use Rattle.rules.specs.declared.Verdict.{Verdict}
+use Rattle.rules.specs.Search.{any}
+use Rattle.rules.specs.Contents.{bears, on, before}
+use Rattle.rules.specs.Rules.{clash, bearsAt, isEmpty, topIs, bottomIs, addedBefore, fresh, lawful, lawfulAt, inCall, emptyWithin, takesTopmost, removes, hasCause, donePushes, breaks1, breaks2, breaks3, breaks4, breaks5, breaks6}
+use Rattle.rules.specs.Judge.{says, first1, first2, first3, first4, first5, first6, worst4, orElse, rulesOf, headRight, judgeOf}
+use Rattle.rules.specs.Accepted.{TopIs, BottomIs, Rule4, EmptyIn, RemovedIn, Accepted, entryOf, AcceptedLog, AcceptedBytes}
+use Rattle.base.proofs.Bools.{contra, not-so, and-i, and-0, and-1, or-l, or-r, or-e, guarded, not-i, not-e, not-f}
+use Rattle.rules.proofs.SearchLaws.{from-i, from-e, Found, any-e, any-i, none-passes, none, any-no, Hit, lowest-is, lowest-le}
+use Rattle.rules.proofs.FieldLaws.{fields-back, order-back, moment, moment-back}
+use Rattle.rules.proofs.KeptLaws.{fields-of, order-of, moments-of, distinct}
+use Rattle.rules.proofs.ContentLaws.{topmost}
+use Rattle.rules.proofs.VerdictLaws.{headOf, says0, whole}
 
 -- the ends of a queue
 empty-to : (c : List ℕ) → isEmpty c ≡ true → c ≡ []
@@ -173,8 +173,8 @@ module _ (f : ℕ → Entry) (n : ℕ) where
   accepted-from : (P C : ℕ) → n ≤ first1 f n P → n ≤ first2 f n → n ≤ first3 f n → n ≤ first4 f n → n ≤ first5 f n → n ≤ first6 f n C → Accepted f n P C
   accepted-from P C h1 h2 h3 h4 h5 h6 = record {
     rule1 = fields-of f n P h1;
-    rule2 = λ i j v u. order (f i) (f j) (any-none (λ i. clash (f i) (f j)) j (none-passes (breaks2 f) n h2 j u) i v);
-    rule3 = three;
+    rule2 = order-of f n h2;
+    rule3 = moments-of f n h3;
     differ = λ i j v u b d m. let e = distinct f n h3 i j (omega arith) u b d m in omega arith;
     rule4 = λ j u. lawful-to (f j) (before f n (f j .queue) (f j .moment)) (what (f j)) (λ b.
         not-f (lawfulAt f n (f j)) (sym (ap (λ (t : Bool). t && not (lawfulAt f n (f j))) b) ∙ none-unlawful small h4 j u));
@@ -184,11 +184,8 @@ module _ (f : ℕ → Entry) (n : ℕ) where
         (sym (ap (λ (s : Bool). s && ltb (donePushes f n (f j .queue) (2 * f j .start)) C) (same-of Full (what (f j)) t)) ∙ none-passes (breaks6 f n C) n h6 j u);
   }
     where
-      three : (j : ℕ) → j < n → Rule3 (f j)
-      three j u = moment (f j) (not-f (momentRight (f j)) (or-0 (not (momentRight (f j))) (bears (f j) && any (λ i. bearsAt (f j .moment) (f i)) j) (none-passes (breaks3 f) n h3 j u)))
-
       small : (j : ℕ) → j < n → bears (f j) ≡ true → f j .moment < 65536
-      small j u b = omega (arith, three j u .to b, fields-of f n P h1 j u .end)
+      small j u b = omega (arith, moments-of f n h3 j u .to b, fields-of f n P h1 j u .end)
 
   passed : (number j : ℕ) (v : Verdict) → 0 < number → orElse n number j v .number ≡ 0 → (n ≤ j) × (v .number ≡ 0)
   passed number j v h = by (ltb j n) refl

@@ -9,8 +9,8 @@ use Rattle.log.specs.declared.Entry.{Entry}
 use Rattle.log.specs.declared.What.{What}
 use Rattle.log.specs.declared.What.the-variants.{Pushed, Full, BottomNode, BottomNil, TopNode, TopNil}
 use Rattle.log.specs.Numbers.{push, bottomPop, topPop, nil, full, noMoment, what, same}
-use Rattle.judge.specs.Search.{any, anyFrom, count}
-use Rattle.judge.specs.Contents.{bears, on, before}
+use Rattle.rules.specs.Search.{any, anyFrom, count}
+use Rattle.rules.specs.Contents.{bears, on, before}
 
 -- RULE 1. Fields: process and queue below P; kind 1 to 3, result 0 to 2; a push or bottom pop on its own queue; result 2
 -- for a push only, 0 for pops only; node 0 exactly for NIL; start ≤ end ≤ 32,766.

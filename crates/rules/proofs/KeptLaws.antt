@@ -6,15 +6,14 @@ use native.Mathlib.Omega.{arith}
 use native.Mathlib.Decide.{decLt}
 use borrow.Author.Tests.{eq-eqb}
 use Rattle.log.specs.declared.Entry.{Entry}
-use Rattle.judge.specs.Search.{any}
-use Rattle.judge.specs.Contents.{bears}
-use Rattle.judge.specs.Rules.{keeps1, breaks1, clash, breaks2, momentRight, bearsAt, breaks3}
-use Rattle.judge.specs.Judge.{first1, first2, first3}
-use Rattle.judge.specs.Accepted.{Rule1, Rule2, Rule3}
+use Rattle.rules.specs.Search.{any}
+use Rattle.rules.specs.Contents.{bears}
+use Rattle.rules.specs.Rules.{keeps1, breaks1, clash, breaks2, momentRight, bearsAt, breaks3}
+use Rattle.rules.specs.Judge.{first1, first2, first3}
+use Rattle.rules.specs.Accepted.{Rule1, Rule2, Rule3}
 use Rattle.base.proofs.Bools.{contra, and-i, or-0, or-1, not-f}
-use Rattle.judge.proofs.SearchLaws.{none-passes, any-none}
-use Rattle.judge.proofs.FieldLaws.{fields, order, moment}
-use Rattle.judge.specs.inner.Order.{Fields}
+use Rattle.rules.proofs.SearchLaws.{none-passes, any-none}
+use Rattle.rules.proofs.FieldLaws.{fields, order, moment}
 
 -- moments that are borne differ
 abbrev pub Distinct : (ℕ → Entry) → ℕ → Type 0
@@ -24,7 +23,8 @@ module _ (f : ℕ → Entry) (n : ℕ) where
   pub fields-of : (P : ℕ) → n ≤ first1 f n P → (j : ℕ) → j < n → Rule1 P (f j)
   fields-of P h j u = fields P (f j) (not-f (keeps1 P (f j)) (none-passes (breaks1 f P) n h j u))
 
-  pub fields-to : (P : ℕ) → P ≤ 8 → n ≤ first1 f n P → Fields f n
+  -- in a log of at most 8 processes
+  pub fields-to : (P : ℕ) → P ≤ 8 → n ≤ first1 f n P → (j : ℕ) → j < n → Rule1 8 (f j)
   fields-to P small h j u =
       let r = fields-of P h j u in
       record {

@@ -9,9 +9,9 @@ use Rattle.log.specs.declared.What.the-variants.{Pushed, Full, BottomNode, Bott
 use Rattle.log.specs.Numbers.{push, bottomPop, topPop, nil, full, noMoment, kindOf, resultOf}
 use Rattle.log.specs.Decode.{entryAt}
 use Rattle.log.specs.Encode.{headBytes, logBytes}
-use Rattle.judge.specs.declared.Verdict.{Verdict}
-use Rattle.judge.specs.Contents.{before}
-use Rattle.judge.specs.Judge.{says, judgeOf}
+use Rattle.rules.specs.declared.Verdict.{Verdict}
+use Rattle.rules.specs.Contents.{before}
+use Rattle.rules.specs.Judge.{says, judgeOf}
 
 record Case : Type 0 where
   bytes : List ℕ

@@ -10,8 +10,8 @@ use lib.ListN.{length}
 use Rattle.log.specs.declared.Entry.{Entry}
 use Rattle.log.specs.Decode.{sectionCountOf, processesOf, slotsOf, entryCountOf, entryAt}
 use Rattle.log.specs.Encode.{sectionCount}
-use Rattle.judge.specs.declared.Verdict.{Verdict}
-use Rattle.judge.specs.Judge.{says, first1, first2, first3, first4, first5, first6, rulesOf, headRight, judgeOf}
+use Rattle.rules.specs.declared.Verdict.{Verdict}
+use Rattle.rules.specs.Judge.{says, first1, first2, first3, first4, first5, first6, rulesOf, headRight, judgeOf}
 use Rattle.base.proofs.Bools.{and-0, and-1}
 
 pub pass : (i j n : ℕ) → i ≡ j → n ≤ i → n ≤ j

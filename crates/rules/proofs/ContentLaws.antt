@@ -11,10 +11,10 @@ use Rattle.log.specs.declared.Entry.{Entry}
 use Rattle.log.specs.declared.What.{What}
 use Rattle.log.specs.declared.What.the-variants.{Pushed, Full, BottomNode, BottomNil, TopNode, TopNil}
 use Rattle.log.specs.Numbers.{what}
-use Rattle.judge.specs.Contents.{happens, eventAt, before, applied, dropLast}
-use Rattle.judge.specs.Rules.{isEmpty, takesTopmost}
+use Rattle.rules.specs.Contents.{happens, eventAt, before, applied, dropLast}
+use Rattle.rules.specs.Rules.{isEmpty, takesTopmost}
 use Rattle.base.proofs.Bools.{contra}
-use Rattle.judge.proofs.SearchLaws.{first-none}
+use Rattle.rules.proofs.SearchLaws.{first-none}
 
 module _ (f : ℕ → Entry) (n q : ℕ) where
   pub before-quiet : (x : ℕ) → ((i : ℕ) → i < n → happens q x (f i) ≡ false) → before f n q (suc x) ≡ before f n q x
