@@ -1,10 +1,14 @@
 -- What a call did, by its kind and result alone.
 use Prim.Native.Nat.{ℕ}
 use mathlib.Core.Path.{_≡_, refl, sym, _∙_}
+use mathlib.Core.List.{[], _∷_}
 use mathlib.Core.Bool.{Bool, true, false, cond, not, _&&_, _||_}
 use native.Mathlib.Omega.{arith}
 use borrow.Author.Tests.{eqb-true}
 use lib.Dec.{eqb}
+use types.Run.{OneOf, miss}
+use denote.Enum.Declared.{tagOf}
+use Rattle.log.proofs.What.{the-type}
 use Rattle.log.specs.Numbers.{push, bottomPop, done, bearsMoment, whatOf, same}
 use Rattle.log.specs.declared.What.{What}
 use Rattle.log.specs.declared.What.the-variants.{Pushed, Full, BottomNode, BottomNil, TopNode, TopNil}
@@ -87,3 +91,29 @@ top-nil-is = by-kind (λ t u v. ((not t && not u) && not v) ≡ same TopNil (did
     rest true false = refl
     rest false true = refl
     rest false false = refl
+
+-- what is so on an arm of several variants, told by their places in the enum
+module _ (P : What → Type 0) where
+  pub took : P BottomNode → P TopNode → (w : What) → OneOf (2 ∷ 4 ∷ []) (tagOf the-type w) → P w
+  took b t Pushed k = absurd (miss (2 ∷ 4 ∷ []) 0 tt k)
+  took b t Full k = absurd (miss (2 ∷ 4 ∷ []) 1 tt k)
+  took b t BottomNode k = b
+  took b t BottomNil k = absurd (miss (2 ∷ 4 ∷ []) 3 tt k)
+  took b t TopNode k = t
+  took b t TopNil k = absurd (miss (2 ∷ 4 ∷ []) 5 tt k)
+
+  pub unaltered : P Full → P BottomNil → P TopNil → (w : What) → OneOf (1 ∷ 3 ∷ 5 ∷ []) (tagOf the-type w) → P w
+  unaltered f b t Pushed k = absurd (miss (1 ∷ 3 ∷ 5 ∷ []) 0 tt k)
+  unaltered f b t Full k = f
+  unaltered f b t BottomNode k = absurd (miss (1 ∷ 3 ∷ 5 ∷ []) 2 tt k)
+  unaltered f b t BottomNil k = b
+  unaltered f b t TopNode k = absurd (miss (1 ∷ 3 ∷ 5 ∷ []) 4 tt k)
+  unaltered f b t TopNil k = t
+
+  pub momentless : P Full → P TopNil → (w : What) → OneOf (1 ∷ 5 ∷ []) (tagOf the-type w) → P w
+  momentless f t Pushed k = absurd (miss (1 ∷ 5 ∷ []) 0 tt k)
+  momentless f t Full k = f
+  momentless f t BottomNode k = absurd (miss (1 ∷ 5 ∷ []) 2 tt k)
+  momentless f t BottomNil k = absurd (miss (1 ∷ 5 ∷ []) 3 tt k)
+  momentless f t TopNode k = absurd (miss (1 ∷ 5 ∷ []) 4 tt k)
+  momentless f t TopNil k = t

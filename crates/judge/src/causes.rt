@@ -1,6 +1,6 @@
 // Rule 5: one pass in file order over the NIL top pops, whose ends rise; the calls up to each one's end are gone through by rising moments.
 ghost use mathlib.Core.Path.{_≡_};
-ghost use mathlib.Core.Bool.{cond, _&&_, not};
+ghost use mathlib.Core.Bool.{_&&_, not};
 ghost use Prim.Native.Nat.{_+_, _*_, _^_, _≤_, _<_};
 ghost use lib.Dec.{eqb, ltb, leb};
 ghost use lib.ListN.{getD};
@@ -9,6 +9,7 @@ ghost use Rattle.rules.specs.Search.{any};
 ghost use Rattle.rules.specs.Judge.{first5};
 ghost use Rattle.judge.specs.inner.Order.{momentAt, Whole};
 ghost use Rattle.judge.specs.inner.Causes.{heldAfter, uncausedBy, Clean};
+use crate::fields::choose;
 use crate::fields::pushed;
 use crate::fields::took_top;
 use crate::fields::top_nil;
@@ -24,28 +25,14 @@ fn held_after(did: What, held: usize) -> usize
 {
     match did {
         What::Pushed => held + 1,
-        What::Full => held,
-        What::BottomNode => {
+        What::BottomNode | What::TopNode => {
             if held == 0 {
                 return 0;
             }
             held - 1
         }
-        What::BottomNil => held,
-        What::TopNode => {
-            if held == 0 {
-                return 0;
-            }
-            held - 1
-        }
-        What::TopNil => held,
+        What::Full | What::BottomNil | What::TopNil => held,
     }
-}
-
-fn choose(h: bool, a: usize, b: usize) -> usize
-    ensures { λ r. ⌜ r ≡ cond h a b ⌝ }
-{
-    if h { a } else { b }
 }
 
 // Whether there is a next key, with a moment up to this one.

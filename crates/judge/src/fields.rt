@@ -1,5 +1,6 @@
 // Rule 1, and what an entry says of its call by its kind and result alone.
 ghost use mathlib.Core.Path.{_≡_};
+ghost use mathlib.Core.Bool.{cond};
 ghost use Prim.Native.Nat.{_≤_};
 ghost use Rattle.log.specs.Numbers.{what as whatIs, same};
 ghost use Rattle.log.specs.Decode.{entryAt};
@@ -66,6 +67,13 @@ pub(crate) fn top_nil(e: Entry) -> bool
     ensures { λ r. ⌜ r ≡ same What.TopNil (whatIs e) ⌝ }
 {
     !(e.kind == log::PUSH) & !(e.kind == log::BOTTOM_POP) & !(e.result == log::DONE)
+}
+
+// One of two numbers, by what was told of an entry.
+pub(crate) fn choose(h: bool, a: usize, b: usize) -> usize
+    ensures { λ r. ⌜ r ≡ cond h a b ⌝ }
+{
+    if h { a } else { b }
 }
 
 // The first entry that breaks rule 1, or n.

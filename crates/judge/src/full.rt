@@ -5,10 +5,10 @@ ghost use Rattle.log.specs.Decode.{entryAt};
 ghost use Rattle.rules.specs.Judge.{first6};
 ghost use Rattle.judge.specs.inner.Order.{Whole};
 ghost use Rattle.judge.specs.inner.Fulls.{Timed};
+use crate::fields::choose;
 use crate::fields::full;
 use crate::fields::pushed;
 use crate::read::entry;
-use crate::replay::more;
 
 // The first entry that breaks rule 6, or n.
 pub(crate) fn first_unfilled(log: &[u8], n: usize, slots: u8) -> usize
@@ -26,7 +26,7 @@ pub(crate) fn first_unfilled(log: &[u8], n: usize, slots: u8) -> usize
             return j;
         }
         let push = pushed(e);
-        let next = more(push, k);
+        let next = choose(push, k + 1, k);
         pushes[q] = next;
         j = j + 1;
     }

@@ -3,7 +3,7 @@ ghost use mathlib.Core.Path.{_≡_};
 ghost use Prim.Native.Nat.{_≤_, _<_};
 ghost use Rattle.log.specs.Decode.{entryAt};
 ghost use Rattle.judge.specs.inner.Order.{Whole};
-ghost use Rattle.rules.specs.Judge.{says, rulesOf, judgeOf};
+ghost use Rattle.rules.specs.Judge.{says, rulesOf, headRight, judgeOf};
 
 mod read; // an entry
 mod fields; // rule 1
@@ -60,6 +60,13 @@ fn rules(log: &[u8], n: usize, p: u8, slots: u8) -> Verdict
     verdict_of(0, 0)
 }
 
+// Section 1's count, P and C are right, and there are not too many entries.
+fn head_right(count: u8, p: u8, slots: u8, n: usize) -> bool
+    ensures { λ r. ⌜ r ≡ headRight count p slots n ⌝ }
+{
+    (count == log::SECTION_COUNT) & (1 <= p) & (p <= 8) & (1 <= slots) & (slots <= 64) & (n <= 256)
+}
+
 // The judge, of any bytes.
 pub fn judge(log: &[u8]) -> Verdict
     ensures { λ r. ⌜ r ≡ judgeOf (now (log .entry)) ⌝ }
@@ -67,16 +74,11 @@ pub fn judge(log: &[u8]) -> Verdict
     if log.len() < 5 {
         return verdict_of(11, 0);
     }
-    let count = log::byte_at(log, 0);
-    let p = log::byte_at(log, 1);
-    let slots = log::byte_at(log, 2);
-    let n = log::number_at(log, 3) as usize;
-    let right = (count == log::SECTION_COUNT)
-        & (1 <= p)
-        & (p <= 8)
-        & (1 <= slots)
-        & (slots <= 64)
-        & (n <= 256);
+    let count = base::byte_at(log, 0);
+    let p = base::byte_at(log, 1);
+    let slots = base::byte_at(log, 2);
+    let n = base::number_at(log, 3) as usize;
+    let right = head_right(count, p, slots, n);
     if !right {
         return verdict_of(12, 0);
     }

@@ -55,9 +55,6 @@ ordered3 c = c .before .by-moment .ensures .1 (c .if3 .left)
 first-wrong-requires : tie.Need-first-wrong-requires
 first-wrong-requires c κs = (c .before .pre .0, c .before .pre .2)
 
-verdict-of-requires : tie.Need-verdict-of-requires
-verdict-of-requires c κs = search needs
-
 returns : tie.Need-returns
 returns c =
     let a = c .before .before .before .before .args in
@@ -66,20 +63,11 @@ returns c =
 first-clash-requires : tie.Need-first-clash-requires
 first-clash-requires c κs = (fields1 c, start1 c .pre .0, start1 c .pre .2)
 
-verdict-of-requires-2 : tie.Need-verdict-of-requires-2
-verdict-of-requires-2 c κs = search needs
-
 returns-2 : tie.Need-returns-2
 returns-2 c =
     let e1 = c .before .before .before in
     let a = start1 e1 .args in
     says2 (log-of (start1 e1)) (a .n) (a .p) (a .slots) _ (kept1 e1) _ (c .before .before .first-clash .ensures) (c .before .if2 .taken) (c .verdict-of2 .ensures)
-
-by-moment-requires : tie.Need-by-moment-requires
-by-moment-requires c κs = search needs
-
-verdict-of-requires-3 : tie.Need-verdict-of-requires-3
-verdict-of-requires-3 c κs = search needs
 
 returns-3 : tie.Need-returns-3
 returns-3 c =
@@ -89,9 +77,6 @@ returns-3 c =
 
 first-unlawful-requires : tie.Need-first-unlawful-requires
 first-unlawful-requires c κs = (start3 (c .before) .pre .0, fields1 (c .before .before .before .before .before .before), ordered3 (c .before), start3 (c .before) .pre .2)
-
-verdict-of-requires-4 : tie.Need-verdict-of-requires-4
-verdict-of-requires-4 c κs = search needs
 
 returns-4 : tie.Need-returns-4
 returns-4 c =
@@ -110,9 +95,6 @@ first-uncaused-requires c κs =
       },
       start3 e3 .pre .2,
     )
-
-verdict-of-requires-5 : tie.Need-verdict-of-requires-5
-verdict-of-requires-5 c κs = search needs
 
 returns-5 : tie.Need-returns-5
 returns-5 c =
@@ -134,9 +116,6 @@ first-unfilled-requires c κs =
       start3 e3 .pre .2,
     )
 
-verdict-of-requires-6 : tie.Need-verdict-of-requires-6
-verdict-of-requires-6 c κs = search needs
-
 returns-6 : tie.Need-returns-6
 returns-6 c =
     let e5 = c .before .before .before in
@@ -144,9 +123,6 @@ returns-6 c =
     let e3 = e4 .before .before .before in
     let a = start5 e5 .args in
     says6 (log-of (start5 e5)) (a .n) (a .p) (a .slots) _ (kept1 (e3 .before .before .before .before .before)) (kept2 (e3 .before .before .before)) (kept3 e3) (kept4 e4) (kept5 e5) _ (c .before .before .first-unfilled .ensures) (c .before .if6 .taken) (c .verdict-of6 .ensures)
-
-verdict-of-requires-7 : tie.Need-verdict-of-requires-7
-verdict-of-requires-7 c κs = search needs
 
 returns-7 : tie.Need-returns-7
 returns-7 c =
@@ -161,22 +137,22 @@ rules-spec =
     tie.close
     (tie.spec
     first-wrong-requires
-    verdict-of-requires
+    (λ c κs. search needs)
     returns
     first-clash-requires
-    verdict-of-requires-2
+    (λ c κs. search needs)
     returns-2
-    by-moment-requires
-    verdict-of-requires-3
+    (λ c κs. search needs)
+    (λ c κs. search needs)
     returns-3
     first-unlawful-requires
-    verdict-of-requires-4
+    (λ c κs. search needs)
     returns-4
     first-uncaused-requires
-    verdict-of-requires-5
+    (λ c κs. search needs)
     returns-5
     first-unfilled-requires
-    verdict-of-requires-6
+    (λ c κs. search needs)
     returns-6
-    verdict-of-requires-7
+    (λ c κs. search needs)
     returns-7)

@@ -132,9 +132,6 @@ loop-holds c =
 entry-requires : tie.Need-entry-requires Inv-loop μ-loop
 entry-requires c κs = (omega (arith, c .loop-test .taken, c .before .before .before .pre .0 .small), omega (arith, c .loop-test .taken, c .before .before .before .pre .1))
 
-top-nil-requires : tie.Need-top-nil-requires Inv-loop μ-loop
-top-nil-requires c κs = search needs
-
 add-j : tie.Need-add-j Inv-loop μ-loop
 add-j c = omega (arith, below (c .before), start (c .before) .pre .0 .small)
 
@@ -153,15 +150,6 @@ loop-again c =
       λ x u v. l .inv .4 x (omega arith) v,
     )
 
-cast-to : tie.Need-cast-to Inv-loop μ-loop
-cast-to c = search needs
-
-mul-to : tie.Need-mul-to Inv-loop μ-loop
-mul-to c = search needs
-
-add-to : tie.Need-add-to Inv-loop μ-loop
-add-to c = search needs
-
 due-requires : tie.Need-due-requires Inv-loop μ-loop
 due-requires c κs = omega (arith, start (c .before .before) .pre .0 .ordered .few, start (c .before .before) .pre .0 .small)
 
@@ -177,18 +165,6 @@ entry-requires-2 c κs =
     let r = due-read d in
     let i = start r .pre .0 .ordered .index (loop-at r .loop .k) (due-below d) in
     (omega (arith, i, start r .pre .0 .small), omega (arith, i, start r .pre .1))
-
-cast-q : tie.Need-cast-q Inv-loop μ-loop
-cast-q c = search needs
-
-cast-moment : tie.Need-cast-moment Inv-loop μ-loop
-cast-moment c = search needs
-
-mul-at : tie.Need-mul-at Inv-loop μ-loop
-mul-at c = search needs
-
-cast-at : tie.Need-cast-at Inv-loop μ-loop
-cast-at c = search needs
 
 add-at : tie.Need-add-at Inv-loop μ-loop
 add-at c = omega (arith, call-low c .0, call-low c .1)
@@ -211,9 +187,6 @@ mul-t c = omega (arith, call-low c .0, call-low c .1)
 array-read-t : tie.Need-array-read-t Inv-loop μ-loop
 array-read-t c = omega (arith, call-low c .0, call-low c .1)
 
-what-requires : tie.Need-what-requires Inv-loop μ-loop
-what-requires c κs = search needs
-
 held-after-requires : tie.Need-held-after-requires Inv-loop μ-loop
 held-after-requires c κs = omega (arith, call-low (c .before) .2, due-low (fed-due (c .before)))
 
@@ -223,26 +196,11 @@ mul-held c = omega (arith, call-low (c .before .before) .0)
 array-write-held : tie.Need-array-write-held Inv-loop μ-loop
 array-write-held c = call-low (c .before .before) .0
 
-pushed-requires : tie.Need-pushed-requires Inv-loop μ-loop
-pushed-requires c κs = search needs
-
-choose-requires : tie.Need-choose-requires Inv-loop μ-loop
-choose-requires c κs = search needs
-
 mul-filled : tie.Need-mul-filled Inv-loop μ-loop
 mul-filled c = omega (arith, call-low (c .before .before .before .before) .0)
 
 array-write-filled : tie.Need-array-write-filled Inv-loop μ-loop
 array-write-filled c = call-low (c .before .before .before .before) .0
-
-took-top-requires : tie.Need-took-top-requires Inv-loop μ-loop
-took-top-requires c κs = search needs
-
-add-choose : tie.Need-add-choose Inv-loop μ-loop
-add-choose c = search needs
-
-choose-requires-2 : tie.Need-choose-requires-2 Inv-loop μ-loop
-choose-requires-2 c κs = search needs
 
 mul-took : tie.Need-mul-took Inv-loop μ-loop
 mul-took c = omega (arith, call-low (c .before .before .before .before .before .before) .0, call-low (c .before .before .before .before .before .before) .1)
@@ -313,21 +271,21 @@ first-uncaused-spec =
     μ-loop
     loop-holds
     entry-requires
-    top-nil-requires
+    (λ c κs. search needs)
     add-j
     loop-less
     loop-again
-    cast-to
-    mul-to
-    add-to
+    (λ c. search needs)
+    (λ c. search needs)
+    (λ c. search needs)
     due-requires
     mul-key
     element-copy-out-key
     entry-requires-2
-    cast-q
-    cast-moment
-    mul-at
-    cast-at
+    (λ c. search needs)
+    (λ c. search needs)
+    (λ c. search needs)
+    (λ c. search needs)
     add-at
     mul-h
     array-read-h
@@ -335,17 +293,17 @@ first-uncaused-spec =
     array-read-f
     mul-t
     array-read-t
-    what-requires
+    (λ c κs. search needs)
     held-after-requires
     mul-held
     array-write-held
-    pushed-requires
-    choose-requires
+    (λ c κs. search needs)
+    (λ c κs. search needs)
     mul-filled
     array-write-filled
-    took-top-requires
-    add-choose
-    choose-requires-2
+    (λ c κs. search needs)
+    (λ c. search needs)
+    (λ c κs. search needs)
     mul-took
     array-write-took
     add-k

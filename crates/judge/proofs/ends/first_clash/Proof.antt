@@ -62,18 +62,6 @@ loop-holds c = let a = c .before .args in (search needs, first-start (breaks2 (e
 entry-requires : tie.Need-entry-requires Inv-loop μ-loop
 entry-requires c κs = (omega (arith, c .loop-test .taken, c .before .before .before .pre .1), omega (arith, c .loop-test .taken, c .before .before .before .pre .2))
 
-cast-p : tie.Need-cast-p Inv-loop μ-loop
-cast-p c = search needs
-
-cast-start : tie.Need-cast-start Inv-loop μ-loop
-cast-start c = search needs
-
-cast-end : tie.Need-cast-end Inv-loop μ-loop
-cast-end c = search needs
-
-mul-mine : tie.Need-mul-mine Inv-loop μ-loop
-mul-mine c = search needs
-
 array-read-mine : tie.Need-array-read-mine Inv-loop μ-loop
 array-read-mine c = inside c
 
@@ -83,20 +71,8 @@ returns c =
     let l = k .before .before .before .before .before .loop in
     first-found (breaks2 (entryAt (bytes k))) (l .i) (start k .args .n) (k .before .before .before .before .loop-test .taken) (sym (clashes k) ∙ c .if1 .taken) ∙ l .inv .1
 
-add-last : tie.Need-add-last Inv-loop μ-loop
-add-last c = search needs
-
-mul-own : tie.Need-mul-own Inv-loop μ-loop
-mul-own c = search needs
-
 array-write-own : tie.Need-array-write-own Inv-loop μ-loop
 array-write-own c = inside (c .before)
-
-add-i : tie.Need-add-i Inv-loop μ-loop
-add-i c = search needs
-
-loop-less : tie.Need-loop-less Inv-loop μ-loop
-loop-less c = search needs
 
 loop-again : tie.Need-loop-again Inv-loop μ-loop
 loop-again c =
@@ -126,16 +102,16 @@ first-clash-spec =
     μ-loop
     loop-holds
     entry-requires
-    cast-p
-    cast-start
-    cast-end
-    mul-mine
+    (λ c. search needs)
+    (λ c. search needs)
+    (λ c. search needs)
+    (λ c. search needs)
     array-read-mine
     returns
-    add-last
-    mul-own
+    (λ c. search needs)
+    (λ c. search needs)
     array-write-own
-    add-i
-    loop-less
+    (λ c. search needs)
+    (λ c. search needs)
     loop-again
     returns-2)

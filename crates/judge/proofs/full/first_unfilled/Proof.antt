@@ -62,17 +62,11 @@ loop-holds c = let a = c .before .args in (search needs, first-start (breaks6 (e
 entry-requires : tie.Need-entry-requires Inv-loop μ-loop
 entry-requires c κs = (omega (arith, c .loop-test .taken, c .before .before .before .pre .0), omega (arith, c .loop-test .taken, c .before .before .before .pre .2))
 
-cast-q : tie.Need-cast-q Inv-loop μ-loop
-cast-q c = search needs
-
 mul-k : tie.Need-mul-k Inv-loop μ-loop
 mul-k c = omega (arith, low c .0)
 
 array-read-k : tie.Need-array-read-k Inv-loop μ-loop
 array-read-k c = low c .0
-
-full-requires : tie.Need-full-requires Inv-loop μ-loop
-full-requires c κs = search needs
 
 returns : tie.Need-returns Inv-loop μ-loop
 returns c =
@@ -80,11 +74,8 @@ returns c =
     let l = loop-at r .loop in
     first-found (breaks6 (fun r) (start r .args .n) (start r .args .slots)) (l .j) (start r .args .n) (below r) (sym (broken (c .before)) ∙ c .if1 .taken) ∙ l .inv .1
 
-pushed-requires : tie.Need-pushed-requires Inv-loop μ-loop
-pushed-requires c κs = search needs
-
-more-requires : tie.Need-more-requires Inv-loop μ-loop
-more-requires c κs = omega (arith, low (c .before .before .before) .1, below (c .before .before .before), start (c .before .before .before) .pre .0)
+add-choose : tie.Need-add-choose Inv-loop μ-loop
+add-choose c = omega (arith, low (c .before .before .before) .1, below (c .before .before .before), start (c .before .before .before) .pre .0)
 
 mul-pushes : tie.Need-mul-pushes Inv-loop μ-loop
 mul-pushes c = omega (arith, low (c .before .before .before .before) .0)
@@ -104,8 +95,8 @@ loop-again c =
     let l = loop-at r .loop in (
       omega (arith, below r),
       first-next (breaks6 (fun r) (start r .args .n) (start r .args .slots)) (l .j) (start r .args .n) (below r) (sym (broken (c .before .before .before)) ∙ c .before .before .if1 .left) ∙ l .inv .1,
-      next-told (fun r) (start r .args .n) (start r .pre .1) (start r .args .slots) (l .j) (below r) (l .pushes) (l .inv .2) (got r) (is r) (c .more .result) (c .before .pushed .result)
-          (c .before .pushed .ensures) (c .more .ensures),
+      next-told (fun r) (start r .args .n) (start r .pre .1) (start r .args .slots) (l .j) (below r) (l .pushes) (l .inv .2) (got r) (is r) (c .choose .result) (c .before .pushed .result)
+          (c .before .pushed .ensures) (c .choose .ensures),
     )
 
 returns-2 : tie.Need-returns-2 Inv-loop μ-loop
@@ -121,13 +112,14 @@ first-unfilled-spec =
     μ-loop
     loop-holds
     entry-requires
-    cast-q
+    (λ c. search needs)
     mul-k
     array-read-k
-    full-requires
+    (λ c κs. search needs)
     returns
-    pushed-requires
-    more-requires
+    (λ c κs. search needs)
+    add-choose
+    (λ c κs. search needs)
     mul-pushes
     array-write-pushes
     add-j

@@ -75,7 +75,7 @@ ok-is c =
     let a = start r .args in
     let p = start r .pre in
     ok-told (fun r) (a .n) (keys r) (a .count) (p .2) (l .k) (below r) (l .nodes) (l .lo) (l .hi) (l .added) (l .c) (l .inv .1) (p .0) (p .1) (got r) (is r)
-    _ _ _ _ _ (r .before .what .ensures) (r .pushed .ensures) (c .before .before .before .only .ensures) (c .before .before .added-in .ensures) (c .lawful .ensures)
+    _ _ _ _ _ (r .before .what .ensures) (r .pushed .ensures) (c .before .before .before .choose .ensures) (c .before .before .added-in .ensures) (c .lawful .ensures)
 
 loop-holds : tie.Need-loop-holds Inv-loop μ-loop
 loop-holds c =
@@ -94,15 +94,6 @@ entry-requires c κs =
     let i = p .2 .index (c .before .before .loop .k) (c .before .loop-test .taken) in
     (omega (arith, i, p .0), omega (arith, i, p .3))
 
-cast-q : tie.Need-cast-q Inv-loop μ-loop
-cast-q c = search needs
-
-what-requires : tie.Need-what-requires Inv-loop μ-loop
-what-requires c κs = search needs
-
-pushed-requires : tie.Need-pushed-requires Inv-loop μ-loop
-pushed-requires c κs = search needs
-
 mul-l : tie.Need-mul-l Inv-loop μ-loop
 mul-l c = omega (arith, told-of c .0)
 
@@ -115,11 +106,8 @@ mul-h c = omega (arith, told-of c .0)
 array-read-h : tie.Need-array-read-h Inv-loop μ-loop
 array-read-h c = told-of c .0
 
-only-requires : tie.Need-only-requires Inv-loop μ-loop
-only-requires c κs = search needs
-
 added-in-requires : tie.Need-added-in-requires Inv-loop μ-loop
-added-in-requires c κs = only-le (c .before .before .pushed .result) (loop-at (c .before .before) .loop .c) _ 256 (c .only .ensures) (omega (arith, few (c .before .before)))
+added-in-requires c κs = only-le (c .before .before .pushed .result) (loop-at (c .before .before) .loop .c) _ 256 (c .choose .ensures) (omega (arith, few (c .before .before)))
 
 slice-aggregate-lawful : tie.Need-slice-aggregate-lawful Inv-loop μ-loop
 slice-aggregate-lawful c = sym (loop-at (c .before .before .before .before) .loop .inv .1 .nodes-long)
@@ -164,8 +152,8 @@ mul-added c = omega (arith, few (c .before .before .before .before .before .befo
 array-write-added : tie.Need-array-write-added Inv-loop μ-loop
 array-write-added c = few (c .before .before .before .before .before .before .before)
 
-more-requires : tie.Need-more-requires Inv-loop μ-loop
-more-requires c κs = omega (arith, few (c .before .before .before .before .before .before .before))
+add-choose : tie.Need-add-choose Inv-loop μ-loop
+add-choose c = omega (arith, few (c .before .before .before .before .before .before .before))
 
 add-k : tie.Need-add-k Inv-loop μ-loop
 add-k c = omega (arith, below (c .before .before .before .before .before .before .before .before), start (c .before .before .before .before .before .before .before .before) .pre .2 .few, start (c .before .before .before .before .before .before .before .before) .pre .0)
@@ -181,7 +169,7 @@ loop-again c =
     let p = start r .pre in (
       omega (arith, below r),
       turn-told (fun r) (a .n) (keys r) (a .count) (p .2) (l .k) (below r) (l .nodes) (l .lo) (l .hi) (l .added) (l .c) (l .inv .1) (p .0) (p .1) (got r) (is r)
-          _ _ _ _ _ (r .before .what .ensures) (r .pushed .ensures) (c .before .moved .ensures .0) (c .before .moved .ensures .1) (c .more .ensures) (sym (ok-is (c .before .before .before)) ∙ not-false _ (c .before .before .if1 .left)),
+          _ _ _ _ _ (r .before .what .ensures) (r .pushed .ensures) (c .before .moved .ensures .0) (c .before .moved .ensures .1) (c .choose2 .ensures) (sym (ok-is (c .before .before .before)) ∙ not-false _ (c .before .before .if1 .left)),
     )
 
 returns-2 : tie.Need-returns-2 Inv-loop μ-loop
@@ -201,14 +189,14 @@ first-unlawful-spec =
     mul-key
     element-copy-out-key
     entry-requires
-    cast-q
-    what-requires
-    pushed-requires
+    (λ c. search needs)
+    (λ c κs. search needs)
+    (λ c κs. search needs)
     mul-l
     array-read-l
     mul-h
     array-read-h
-    only-requires
+    (λ c κs. search needs)
     added-in-requires
     slice-aggregate-lawful
     lawful-requires
@@ -222,7 +210,8 @@ first-unlawful-spec =
     array-write-hi
     mul-added
     array-write-added
-    more-requires
+    add-choose
+    (λ c κs. search needs)
     add-k
     loop-less
     loop-again
