@@ -2,8 +2,8 @@
 ghost use mathlib.Core.Path.{_≡_};
 ghost use Prim.Native.Nat.{_≤_, _<_};
 ghost use Rattle.log.specs.Decode.{entryAt};
-ghost use Rattle.judge.specs.inner.Order.{Whole};
-ghost use Rattle.rules.specs.Judge.{says, rulesOf, headRight, judgeOf};
+ghost use Rattle.judge.specs.inner.Order.{Fields, EndsKept, Whole};
+ghost use Rattle.rules.specs.Judge.{says, momentRulesOf, rulesOf, headRight, judgeOf};
 
 mod read; // an entry
 mod fields; // rule 1
@@ -25,7 +25,7 @@ fn verdict_of(number: u8, j: usize) -> Verdict
     }
 }
 
-// The rules in order, each over the whole log.
+// The rules in order, each over the whole log: 1 and 2, then the others.
 fn rules(log: &[u8], n: usize, p: u8, slots: u8) -> Verdict
     requires { ⌜ (n ≤ 256) × (p ≤ 8) × Whole (now log) n ⌝ }
     ensures { λ r. ⌜ r ≡ rulesOf (entryAt (now (log .entry))) n p slots ⌝ }
@@ -38,6 +38,14 @@ fn rules(log: &[u8], n: usize, p: u8, slots: u8) -> Verdict
     if j2 < n {
         return verdict_of(15, j2);
     }
+    moment_rules(log, n, slots)
+}
+
+// Rules 3 to 6, which speak of moments.
+fn moment_rules(log: &[u8], n: usize, slots: u8) -> Verdict
+    requires { ⌜ (n ≤ 256) × Fields (entryAt (now log)) n × EndsKept (entryAt (now log)) n × Whole (now log) n ⌝ }
+    ensures { λ r. ⌜ r ≡ momentRulesOf (entryAt (now (log .entry))) n slots ⌝ }
+{
     let mut keys: [usize; 256] = [0; 256];
     let sorted = order::by_moment(log, n, &mut keys);
     let j3 = sorted.bad;

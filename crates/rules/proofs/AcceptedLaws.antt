@@ -28,7 +28,7 @@ use Rattle.rules.proofs.SearchLaws.{from-i, from-e, Found, any-e, any-i
 use Rattle.rules.proofs.FieldLaws.{fields-back, order-back, moment, moment-back}
 use Rattle.rules.proofs.KeptLaws.{fields-of, order-of, moments-of, distinct}
 use Rattle.rules.proofs.ContentLaws.{topmost}
-use Rattle.rules.proofs.VerdictLaws.{headOf, says0, whole}
+use Rattle.rules.proofs.VerdictLaws.{headOf, says0, says-later, whole}
 
 -- the ends of a queue
 empty-to : (c : List ℕ) → isEmpty c ≡ true → c ≡ []
@@ -147,9 +147,10 @@ module _ (f : ℕ → Entry) (n : ℕ) where
   -- an accepted log breaks no rule: what a theorem about logs that are made has to show
   pub accepted-says : (P C : ℕ) → Accepted f n P C → rulesOf f n P C ≡ says 0 0
   accepted-says P C g =
-      sym (says0 f n P C (says 0 0)
+      sym (says-later f n P C (says 0 0)
       (none (breaks1 f P) n (λ j u. ap not (fields-back P (f j) (g .rule1 j u))))
       (none (breaks2 f) n (λ j u. any-no (λ i. clash (f i) (f j)) j (λ i v. order-back (f i) (f j) (g .rule2 i j v u))))
+      (says0 f n C (says 0 0)
       (none (breaks3 f) n (λ j u. rw (moment-back (f j) (g .rule3 j u)) (guarded (bears (f j)) (any (λ i. bearsAt (f j .moment) (f i)) j)
       (λ b. any-no (λ i. bearsAt (f j .moment) (f i)) j (λ i v. not-so (bearsAt (f j .moment) (f i)) (λ t.
       g .differ i j v u (and-0 (bears (f i)) (eqb (f i .moment) (f j .moment)) t) b (eqb-true (f i .moment) (f j .moment) (and-1 (bears (f i)) (eqb (f i .moment) (f j .moment)) t))))))))
@@ -159,7 +160,7 @@ module _ (f : ℕ → Entry) (n : ℕ) where
       (λ t. ap not (cause-from (f j) (g .rule5 j u (sym (same-true TopNil (what (f j)) t)))))))
       (none (breaks6 f n C) n (λ j u. guarded (same Full (what (f j))) (ltb (donePushes f n (f j .queue) (2 * f j .start)) C)
       (λ t. le-ltb (donePushes f n (f j .queue) (2 * f j .start)) C (g .rule6 j u (sym (same-true Full (what (f j)) t))))))
-      refl)
+      refl))
 
   -- and a log that breaks none is accepted
   none-unlawful : ((j : ℕ) → j < n → bears (f j) ≡ true → f j .moment < 65536) → n ≤ first4 f n → (j : ℕ) → j < n → breaks4 f n j ≡ false

@@ -11,7 +11,7 @@ use Rattle.log.specs.declared.Entry.{Entry}
 use Rattle.log.specs.Decode.{sectionCountOf, processesOf, slotsOf, entryCountOf, entryAt}
 use Rattle.log.specs.Encode.{sectionCount}
 use Rattle.rules.specs.declared.Verdict.{Verdict}
-use Rattle.rules.specs.Judge.{says, first1, first2, first3, first4, first5, first6, rulesOf, headRight, judgeOf}
+use Rattle.rules.specs.Judge.{says, first1, first2, first3, first4, first5, first6, momentRulesOf, rulesOf, headRight, judgeOf}
 use Rattle.base.proofs.Bools.{and-0, and-1}
 
 pub pass : (i j n : ℕ) → i ≡ j → n ≤ i → n ≤ j
@@ -25,26 +25,27 @@ module _ (f : ℕ → Entry) (n P C : ℕ) (r : Verdict) where
     pub says2 : (i : ℕ) → i ≡ first2 f n → i < n → r ≡ says 15 i → r ≡ rulesOf f n P C
     says2 i e h p = rw (le-ltb (first1 f n P) n h1, ← e, lt-ltb i n h) p
 
-    module _ (h2 : n ≤ first2 f n) where
-      pub says3 : (i : ℕ) → i ≡ first3 f n → i < n → r ≡ says 16 i → r ≡ rulesOf f n P C
-      says3 i e h p = rw (le-ltb (first1 f n P) n h1, le-ltb (first2 f n) n h2, ← e, lt-ltb i n h) p
+    pub says-later : n ≤ first2 f n → r ≡ momentRulesOf f n C → r ≡ rulesOf f n P C
+    says-later h2 p = rw (le-ltb (first1 f n P) n h1, le-ltb (first2 f n) n h2) p
 
-      module _ (h3 : n ≤ first3 f n) where
-        pub says4 : (i : ℕ) → i ≡ first4 f n → i < n → r ≡ says 17 i → r ≡ rulesOf f n P C
-        says4 i e h p = rw (le-ltb (first1 f n P) n h1, le-ltb (first2 f n) n h2, le-ltb (first3 f n) n h3, ← e, lt-ltb i n h) p
+module _ (f : ℕ → Entry) (n C : ℕ) (r : Verdict) where
+  pub says3 : (i : ℕ) → i ≡ first3 f n → i < n → r ≡ says 16 i → r ≡ momentRulesOf f n C
+  says3 i e h p = rw (← e, lt-ltb i n h) p
 
-        module _ (h4 : n ≤ first4 f n) where
-          pub says5 : (i : ℕ) → i ≡ first5 f n → i < n → r ≡ says 18 i → r ≡ rulesOf f n P C
-          says5 i e h p = rw (le-ltb (first1 f n P) n h1, le-ltb (first2 f n) n h2, le-ltb (first3 f n) n h3, le-ltb (first4 f n) n h4, ← e, lt-ltb i n h) p
+  module _ (h3 : n ≤ first3 f n) where
+    pub says4 : (i : ℕ) → i ≡ first4 f n → i < n → r ≡ says 17 i → r ≡ momentRulesOf f n C
+    says4 i e h p = rw (le-ltb (first3 f n) n h3, ← e, lt-ltb i n h) p
 
-          module _ (h5 : n ≤ first5 f n) where
-            pub says6 : (i : ℕ) → i ≡ first6 f n C → i < n → r ≡ says 19 i → r ≡ rulesOf f n P C
-            says6 i e h p =
-                rw (le-ltb (first1 f n P) n h1, le-ltb (first2 f n) n h2, le-ltb (first3 f n) n h3, le-ltb (first4 f n) n h4, le-ltb (first5 f n) n h5, ← e, lt-ltb i n h) p
+    module _ (h4 : n ≤ first4 f n) where
+      pub says5 : (i : ℕ) → i ≡ first5 f n → i < n → r ≡ says 18 i → r ≡ momentRulesOf f n C
+      says5 i e h p = rw (le-ltb (first3 f n) n h3, le-ltb (first4 f n) n h4, ← e, lt-ltb i n h) p
 
-            pub says0 : n ≤ first6 f n C → r ≡ says 0 0 → r ≡ rulesOf f n P C
-            says0 h6 p =
-                rw (le-ltb (first1 f n P) n h1, le-ltb (first2 f n) n h2, le-ltb (first3 f n) n h3, le-ltb (first4 f n) n h4, le-ltb (first5 f n) n h5, le-ltb (first6 f n C) n h6) p
+      module _ (h5 : n ≤ first5 f n) where
+        pub says6 : (i : ℕ) → i ≡ first6 f n C → i < n → r ≡ says 19 i → r ≡ momentRulesOf f n C
+        says6 i e h p = rw (le-ltb (first3 f n) n h3, le-ltb (first4 f n) n h4, le-ltb (first5 f n) n h5, ← e, lt-ltb i n h) p
+
+        pub says0 : n ≤ first6 f n C → r ≡ says 0 0 → r ≡ momentRulesOf f n C
+        says0 h6 p = rw (le-ltb (first3 f n) n h3, le-ltb (first4 f n) n h4, le-ltb (first5 f n) n h5, le-ltb (first6 f n C) n h6) p
 
 -- the head
 abbrev pub headOf : List ℕ → Bool

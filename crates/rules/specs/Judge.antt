@@ -42,11 +42,14 @@ first6 f n C = first (breaks6 f n C) 0 n
 abbrev pub orElse : ℕ → ℕ → ℕ → Verdict → Verdict
 orElse n number j next = cond (ltb j n) (says number j) next
 
--- the rules in order, each over the whole log
+-- the rules that speak of moments, 3 to 6, in order, each over the whole log
+abbrev pub momentRulesOf : (ℕ → Entry) → ℕ → ℕ → Verdict
+momentRulesOf f n C =
+    orElse n 16 (first3 f n) (orElse n 17 (first4 f n) (orElse n 18 (first5 f n) (orElse n 19 (first6 f n C) (says 0 0))))
+
+-- all rules in order
 abbrev pub rulesOf : (ℕ → Entry) → ℕ → ℕ → ℕ → Verdict
-rulesOf f n P C =
-    orElse n 14 (first1 f n P) (orElse n 15 (first2 f n) (orElse n 16 (first3 f n)
-    (orElse n 17 (first4 f n) (orElse n 18 (first5 f n) (orElse n 19 (first6 f n C) (says 0 0))))))
+rulesOf f n P C = orElse n 14 (first1 f n P) (orElse n 15 (first2 f n) (momentRulesOf f n C))
 
 -- section 1's count, P (1 to 8) and C (1 to 64) are right, and there are at most 256 entries
 abbrev pub headRight : ℕ → ℕ → ℕ → ℕ → Bool
