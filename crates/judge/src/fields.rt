@@ -5,7 +5,7 @@ ghost use Prim.Native.Nat.{_≤_};
 ghost use Rattle.log.specs.Numbers.{what as whatIs, same};
 ghost use Rattle.log.specs.Decode.{entryAt};
 ghost use Rattle.rules.specs.Contents.{bears as bearsIs};
-ghost use Rattle.rules.specs.Rules.{numbersKnown, keeps1};
+ghost use Rattle.rules.specs.Rules.{keeps1};
 ghost use Rattle.rules.specs.Judge.{first1};
 ghost use Rattle.judge.specs.inner.Order.{Whole};
 use crate::read::entry;
@@ -15,20 +15,14 @@ use log::What;
 // The last step at which a call may end, by rule 1.
 const LAST_END: u16 = 32766;
 
-// Rule 1, phrase by phrase: the ranges, and what the numbers have to do with each other.
-fn numbers_known(p: u8, e: Entry) -> bool
-    ensures { λ r. ⌜ r ≡ numbersKnown p e ⌝ }
+// Rule 1, phrase by phrase.
+fn keeps_fields(p: u8, e: Entry) -> bool
+    ensures { λ r. ⌜ r ≡ keeps1 p e ⌝ }
 {
     (e.process < p)
         & (e.queue < p)
         & ((log::PUSH <= e.kind) & (e.kind <= log::TOP_POP))
         & (e.result <= log::FULL)
-}
-
-fn keeps_fields(p: u8, e: Entry) -> bool
-    ensures { λ r. ⌜ r ≡ keeps1 p e ⌝ }
-{
-    numbers_known(p, e)
         & (!((e.kind == log::PUSH) | (e.kind == log::BOTTOM_POP)) | (e.process == e.queue))
         & (!(e.result == log::FULL) | (e.kind == log::PUSH))
         & (!(e.result == log::NIL) | !(e.kind == log::PUSH))

@@ -37,13 +37,10 @@ nilForPop e = not (eqb (e .result) nil) || not (eqb (e .kind) push)
 abbrev pub nodeUnlessNil : Entry → Bool
 nodeUnlessNil e = Bool·beq (eqb (e .node) 0) (eqb (e .result) nil)
 
--- process and queue below P; kind 1 to 3, result 0 to 2
-abbrev pub numbersKnown : ℕ → Entry → Bool
-numbersKnown P e = ltb (e .process) P && ltb (e .queue) P && kindKnown e && leb (e .result) full
-
 abbrev pub keeps1 : ℕ → Entry → Bool
 keeps1 P e =
-    numbersKnown P e
+    ltb (e .process) P && ltb (e .queue) P
+    && kindKnown e && leb (e .result) full
     && onOwnQueue e
     && fullForPush e && nilForPop e
     && nodeUnlessNil e
