@@ -19,14 +19,18 @@ const LAST_END: u16 = 32766;
 fn keeps_fields(p: u8, e: Entry) -> bool
     ensures { λ r. ⌜ r ≡ keeps1 p e ⌝ }
 {
+    let kind = e.kind;
+    let result = e.result;
+    let push = kind == log::PUSH;
+    let nil = result == log::NIL;
     (e.process < p)
         & (e.queue < p)
-        & ((log::PUSH <= e.kind) & (e.kind <= log::TOP_POP))
-        & (e.result <= log::FULL)
-        & (!((e.kind == log::PUSH) | (e.kind == log::BOTTOM_POP)) | (e.process == e.queue))
-        & (!(e.result == log::FULL) | (e.kind == log::PUSH))
-        & (!(e.result == log::NIL) | !(e.kind == log::PUSH))
-        & ((e.node == 0) == (e.result == log::NIL))
+        & ((log::PUSH <= kind) & (kind <= log::TOP_POP))
+        & (result <= log::FULL)
+        & (!(push | (kind == log::BOTTOM_POP)) | (e.process == e.queue))
+        & (!(result == log::FULL) | push)
+        & (!nil | !push)
+        & ((e.node == 0) == nil)
         & (e.start <= e.end)
         & (e.end <= LAST_END)
 }
