@@ -67,7 +67,8 @@ module _ (f : ℕ → Entry) (n : ℕ) (keys : List ℕ) (count : ℕ) (o : Orde
   no-empty some le x u v t = split (decLt (instant keys k) (suc x))
     where
       split : Dec (instant keys k < suc x) → ⊥
-      split (yes w) = contra (isEmpty (before f n q (suc x))) t (ap isEmpty (until (suc x) (omega arith) (omega arith)) ∙ full-of (before f n q (instant keys k)) (omega (arith, sh .is)))
+      split (yes w) = contra (isEmpty (before f n q (suc x))) t (ap isEmpty (until (suc x) (omega arith) (omega arith))
+          ∙ full-of (before f n q (instant keys k)) (omega (arith, sh .is)))
       split (no w) = contra (isEmpty (before f n q (suc x))) t (sh .since some (suc x) (omega arith) (omega arith))
 
   inside : (i : ℕ) → i < n → bears (f i) ≡ true → f i .moment ≤ b → f i .moment < instant keys k
@@ -81,7 +82,8 @@ module _ (f : ℕ → Entry) (n : ℕ) (keys : List ℕ) (count : ℕ) (o : Orde
   -- what a removal in the call's time is
   module _ (i : ℕ) (below : i < n) (t : removes f n e (f i) ≡ true) where
     t3 : (on q (f i) && inCall e (f i .moment) && not (eqb (f i .process) (e .process))) ≡ true
-    t3 = and-0 (on q (f i) && inCall e (f i .moment) && not (eqb (f i .process) (e .process))) (takesTopmost (what (f i)) (before f n q (f i .moment))) t
+    t3 = and-0 (on q (f i) && inCall e (f i .moment) && not (eqb (f i .process) (e .process)))
+        (takesTopmost (what (f i)) (before f n q (f i .moment))) t
 
     t2 : (on q (f i) && inCall e (f i .moment)) ≡ true
     t2 = and-0 (on q (f i) && inCall e (f i .moment)) (not (eqb (f i .process) (e .process))) t3
@@ -113,7 +115,8 @@ module _ (f : ℕ → Entry) (n : ℕ) (keys : List ℕ) (count : ℕ) (o : Orde
         let p = f i .process in
         let g : takes f q p i ≡ true = and-i (and-i (ap (same TopNode) w) (eq-eqb (f i .queue) q queue-is)) (eq-eqb p p refl) in
         let u = s .taken q p queue-low (fields i below .process) .above i below g (inside i below borne hi) in
-        any-i (λ p. not (eqb p (e .process)) && ltb a (getD took (8 * q + p) 0)) 8 p (fields i below .process) (and-i not-me (lt-ltb a (getD took (8 * q + p) 0) (omega (arith, lo))))
+        any-i (λ p. not (eqb p (e .process)) && ltb a (getD took (8 * q + p) 0)) 8 p (fields i below .process)
+        (and-i not-me (lt-ltb a (getD took (8 * q + p) 0) (omega (arith, lo))))
 
     -- at the bottom: it leaves the queue empty
     by-bottom : what (f i) ≡ BottomNode → length (before f n q (f i .moment)) ≡ 1 → isEmpty (before f n q (suc (f i .moment))) ≡ true
@@ -122,20 +125,25 @@ module _ (f : ℕ → Entry) (n : ℕ) (keys : List ℕ) (count : ℕ) (o : Orde
         let c = own-is f n keys count o (z .at) (z .below) in
         let c2 = now-is f n keys count o q (z .at) (z .below) in
         let d : before f n q (suc (f i .moment)) ≡ applied (what (f i)) (f i .node) (before f n q (f i .moment)) =
-        ap (λ (x : ℕ). before f n q (suc x)) (sym (z .moment)) ∙ ap (λ (x : ℕ). before f n x (suc (momentAt keys (z .at)))) (sym queue-is ∙ ap (λ (x : ℕ). f x .queue) (sym (z .is)))
+        ap (λ (x : ℕ). before f n q (suc x)) (sym (z .moment))
+        ∙ ap (λ (x : ℕ). before f n x (suc (momentAt keys (z .at)))) (sym queue-is ∙ ap (λ (x : ℕ). f x .queue) (sym (z .is)))
         ∙ c ∙ ap (λ (x : ℕ). applied (what (f x)) (f x .node) (before f n (f x .queue) (instant keys (z .at)))) (z .is)
         ∙ ap (λ (x : ℕ). applied (what (f i)) (f i .node) (before f n x (instant keys (z .at)))) queue-is
-        ∙ ap (λ (d : List ℕ). applied (what (f i)) (f i .node) d) (sym c2) ∙ ap (λ (x : ℕ). applied (what (f i)) (f i .node) (before f n q x)) (z .moment) in
+        ∙ ap (λ (d : List ℕ). applied (what (f i)) (f i .node) d) (sym c2)
+        ∙ ap (λ (x : ℕ). applied (what (f i)) (f i .node) (before f n q x)) (z .moment) in
         ap isEmpty d ∙ ap (λ (x : What). isEmpty (applied x (f i .node) (before f n q (f i .moment)))) w ∙ last-one (before f n q (f i .moment)) one
 
   -- from the code's test
   to : 0 < h → since ≤ a → other ≡ false → hasCause f n e ≡ true → ⊥
   to some le none t = or-e empty taken t
       (λ y. let x = from-e (λ x. isEmpty (before f n q (suc x))) a b y in no-empty some le (x .0) (x .1) (x .2) (x .3))
-      (λ y. let z = any-e (λ i. removes f n e (f i)) n y in how (z .at) (z .below) (z .passes) (topmost (what (f (z .at))) (before f n q (f (z .at) .moment))
-      (and-1 (on q (f (z .at)) && inCall e (f (z .at) .moment) && not (eqb (f (z .at) .process) (e .process))) (takesTopmost (what (f (z .at))) (before f n q (f (z .at) .moment))) (z .passes))))
+      (λ y. let z = any-e (λ i. removes f n e (f i)) n y in how (z .at) (z .below) (z .passes)
+      (topmost (what (f (z .at))) (before f n q (f (z .at) .moment))
+      (and-1 (on q (f (z .at)) && inCall e (f (z .at) .moment) && not (eqb (f (z .at) .process) (e .process)))
+      (takesTopmost (what (f (z .at))) (before f n q (f (z .at) .moment))) (z .passes))))
     where
-      how : (i : ℕ) → i < n → removes f n e (f i) ≡ true → (what (f i) ≡ TopNode) ⊎ ((what (f i) ≡ BottomNode) × (length (before f n q (f i .moment)) ≡ 1)) → ⊥
+      how : (i : ℕ) → i < n → removes f n e (f i) ≡ true → (what (f i) ≡ TopNode) ⊎
+          ((what (f i) ≡ BottomNode) × (length (before f n q (f i .moment)) ≡ 1)) → ⊥
       how i u r (inl w) = contra other (by-top i u r w) none
       how i u r (inr w) = no-empty some le (f i .moment) (lo i u r) (hi i u r) (by-bottom i u r (w .0) (w .1))
 
@@ -149,7 +157,8 @@ module _ (f : ℕ → Entry) (n : ℕ) (keys : List ℕ) (count : ℕ) (o : Orde
       let y = s .taken q p queue-low (z .below) .met a u in
       let i = y .at in
       let w2 = and-0 (takes f q p i && leb a (f i .moment)) (ltb (f i .moment) (instant keys k)) (y .passes) in
-      let m = ltb-true (f i .moment) (instant keys k) (and-1 (takes f q p i && leb a (f i .moment)) (ltb (f i .moment) (instant keys k)) (y .passes)) in
+      let m = ltb-true (f i .moment) (instant keys k) (and-1 (takes f q p i && leb a (f i .moment)) (ltb (f i .moment) (instant keys k))
+      (y .passes)) in
       let w1 = and-0 (takes f q p i) (leb a (f i .moment)) w2 in
       let v = and-1 (takes f q p i) (leb a (f i .moment)) w2 in
       let w0 = and-0 (same TopNode (what (f i)) && eqb (f i .queue) q) (eqb (f i .process) p) w1 in
@@ -170,12 +179,14 @@ module _ (f : ℕ → Entry) (n : ℕ) (keys : List ℕ) (count : ℕ) (o : Orde
       absurd (never (empty-i (since - 1) (omega arith) (omega (arith, sh .early)) (ap (λ (x : ℕ). isEmpty (before f n q x)) d ∙ sh .empty)))
   from false y z u v w never =
       let g = ltb-false 0 h u in
-      absurd (never (empty-i b (omega arith) (omega arith) (ap isEmpty (until (suc b) (omega arith) (omega arith)) ∙ empty-of (before f n q (instant keys k)) (sym (sh .is) ∙ omega arith))))
+      absurd (never (empty-i b (omega arith) (omega arith) (ap isEmpty (until (suc b) (omega arith) (omega arith))
+      ∙ empty-of (before f n q (instant keys k)) (sym (sh .is) ∙ omega arith))))
 
   pub cause-is : (ltb 0 h && leb since a && not other) ≡ not (hasCause f n e)
   cause-is = by-both (ltb 0 h && leb since a && not other) (not (hasCause f n e))
       (λ t. not-i (hasCause f n e) (to (ltb-true 0 h (and-0 (ltb 0 h) (leb since a) (and-0 (ltb 0 h && leb since a) (not other) t)))
-      (leb-true since a (and-1 (ltb 0 h) (leb since a) (and-0 (ltb 0 h && leb since a) (not other) t))) (not-so other (not-e other (and-1 (ltb 0 h && leb since a) (not other) t)))))
+      (leb-true since a (and-1 (ltb 0 h) (leb since a) (and-0 (ltb 0 h && leb since a) (not other) t)))
+      (not-so other (not-e other (and-1 (ltb 0 h && leb since a) (not other) t)))))
       (λ t. from (ltb 0 h) (leb since a) other refl refl refl (not-e (hasCause f n e) t))
 
 pub moved-on : (keys : List ℕ) (k b : ℕ) → momentAt keys k ≤ b → instant keys (k + 1) ≤ b + 1
@@ -202,7 +213,8 @@ module _ (f : ℕ → Entry) (n : ℕ) (keys : List ℕ) (count : ℕ) (cl : Cle
   not-due : (k b : ℕ) → (ltb k count && leb (momentAt keys k) b) ≡ false → k < count → b < momentAt keys k
   not-due k b h u = leb-false (momentAt keys k) b (sym (ap (λ (t : Bool). t && leb (momentAt keys k) b) (lt-ltb k count u)) ∙ h)
 
-  pub query-told : (k : ℕ) → k ≤ count → (held filled took : List ℕ) → Shelves f n keys k held filled took → (j : ℕ) → j < n → Passed k j → (e : Entry) → e ≡ f j
+  pub query-told : (k : ℕ) → k ≤ count → (held filled took : List ℕ) → Shelves f n keys k held filled took → (j : ℕ) → j < n → Passed k j
+      → (e : Entry) → e ≡ f j
       → (ltb k count && leb (momentAt keys k) (2 * e .end + 1)) ≡ false → same TopNil (what e) ≡ true → uncausedBy held filled took e ≡ breaks5 f n j
   query-told k within held filled took s j u pass e g due nil =
       cause-is f n keys count (cl .ordered) (cl .fields) k within held filled took s e (nil-low e j g u)

@@ -43,7 +43,8 @@ module _ (l : List ℕ) (lo hi : ℕ) where
       let t : hi - 1 < length l = omega arith in
       let e : length (take (hi - 1) l) ≡ hi - 1 = length-take-le (hi - 1) l (omega arith) in
       let m : lo ≤ length (take (hi - 1) l) = omega arith in
-      ap (λ (n : ℕ). slice lo n l) s ∙ ap (λ (xs : List ℕ). drop lo xs) (take-suc l (hi - 1) 0 t) ∙ drop-append-le lo (take (hi - 1) l) (getD l (hi - 1) 0 ∷ []) m
+      ap (λ (n : ℕ). slice lo n l) s ∙ ap (λ (xs : List ℕ). drop lo xs) (take-suc l (hi - 1) 0 t)
+      ∙ drop-append-le lo (take (hi - 1) l) (getD l (hi - 1) 0 ∷ []) m
 
   pub content-bottom : lo < hi → hi ≤ length l → slice lo (hi - 1) l ≡ dropLast (slice lo hi l)
   content-bottom h k = sym (ap dropLast (content-split h k) ∙ dropLast-snoc (slice lo (hi - 1) l) (getD l (hi - 1) 0))

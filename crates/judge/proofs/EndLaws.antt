@@ -88,7 +88,8 @@ module _ (f : ℕ → Entry) (i last : ℕ) (own : List ℕ) (s : Ends f i last 
           let e = and-0 (mine f (f i .process) k) (not (ltb (f k .end) (f i .start))) (z .passes) in
           let w = and-1 (mine f (f i .process) k) (not (ltb (f k .end) (f i .start))) (z .passes) in
           any-i (λ k. clash (f k) (f i)) i k (z .below) (not-i (endsRise (f k) (f i) && startsAfter (f k) (f i)) (λ g.
-          not-e (ltb (f k .end) (f i .start)) w (if-so (eqb (f k .process) (f i .process)) (ltb (f k .end) (f i .start)) (and-1 (endsRise (f k) (f i)) (startsAfter (f k) (f i)) g) e))))
+          not-e (ltb (f k .end) (f i .start)) w (if-so (eqb (f k .process) (f i .process)) (ltb (f k .end) (f i .start))
+          (and-1 (endsRise (f k) (f i)) (startsAfter (f k) (f i)) g) e))))
 
       from : Found (λ k. clash (f k) (f i)) i → (ltb (f i .end) last || ltb (f i .start) of) ≡ true
       from z = split (ltb (f i .end) last) (ltb (f i .start) of) refl refl

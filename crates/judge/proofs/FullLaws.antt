@@ -30,9 +30,11 @@ count-front : (p r : ℕ → Bool) (j n : ℕ) → j ≤ n → ((i : ℕ) → i 
 count-front p r j zero u h g = let e : j ≡ 0 = omega arith in rw e
 count-front p r j (suc n) u h g = split (decLt n j) (count-front p r j n)
   where
-    split : Dec (n < j) → (j ≤ n → ((i : ℕ) → i < j → r i ≡ p i) → ((i : ℕ) → j ≤ i → i < n → r i ≡ false) → count r n ≡ count p j) → count r (suc n) ≡ count p j
+    split : Dec (n < j) → (j ≤ n → ((i : ℕ) → i < j → r i ≡ p i) → ((i : ℕ) → j ≤ i → i < n → r i ≡ false) → count r n ≡ count p j)
+        → count r (suc n) ≡ count p j
     split (yes w) ih = let e : j ≡ suc n = omega arith in ap (count r) (sym e) ∙ count-cong p r j h
-    split (no w) ih = ap (λ (t : Bool). cond t (count r n + 1) (count r n)) (g n (omega arith) (omega arith)) ∙ ih (omega arith) h (λ i a b. g i a (omega arith))
+    split (no w) ih = ap (λ (t : Bool). cond t (count r n + 1) (count r n)) (g n (omega arith) (omega arith))
+        ∙ ih (omega arith) h (λ i a b. g i a (omega arith))
 
 -- a done push on queue q
 abbrev pub pushOn : (ℕ → Entry) → ℕ → ℕ → Bool
@@ -51,7 +53,8 @@ module _ (f : ℕ → Entry) (n : ℕ) (r : Timed f n) (j : ℕ) (below : j < n)
     did = same-true Pushed (what (f i)) (and-0 (same Pushed (what (f i))) (eqb (f i .queue) q) t)
 
     same-process : f i .process ≡ f j .process
-    same-process = own-of i u (ap kindOf (sym did)) ∙ eqb-true (f i .queue) q (and-1 (same Pushed (what (f i))) (eqb (f i .queue) q) t) ∙ sym (own-of j below (ap kindOf full))
+    same-process = own-of i u (ap kindOf (sym did)) ∙ eqb-true (f i .queue) q (and-1 (same Pushed (what (f i))) (eqb (f i .queue) q) t)
+        ∙ sym (own-of j below (ap kindOf full))
 
     borne : bearsMoment (what (f i)) ≡ true
     borne = ap bearsMoment (sym did)
@@ -63,7 +66,8 @@ module _ (f : ℕ → Entry) (n : ℕ) (r : Timed f n) (j : ℕ) (below : j < n)
     later v = omega (arith, r .moments i u .from borne, r .order j i v u .starts-after (sym same-process), r .fields j below .start)
 
     not-it : i ≡ j → ⊥
-    not-it e = contra (same Pushed (what (f i))) (and-0 (same Pushed (what (f i))) (eqb (f i .queue) q) t) (ap (λ (x : ℕ). same Pushed (what (f x))) e ∙ ap (same Pushed) full)
+    not-it e = contra (same Pushed (what (f i))) (and-0 (same Pushed (what (f i))) (eqb (f i .queue) q) t)
+        (ap (λ (x : ℕ). same Pushed (what (f x))) e ∙ ap (same Pushed) full)
 
   pub done-is : donePushes f n q (2 * f j .start) ≡ count (pushOn f q) j
   done-is = count-front (pushOn f q) (λ i. pushedOn q (2 * f j .start) (f i)) j n (omega arith) front back
@@ -96,17 +100,20 @@ module _ (f : ℕ → Entry) (n : ℕ) (r : Timed f n) (C j : ℕ) (below : j < 
   queue-low = r .fields j below .queue
 
   pub low-told : (e : Entry) → e ≡ f j → (e .queue < 8) × (getD pushes (e .queue) 0 ≤ j)
-  low-told e g = subst (λ (e : Entry). (e .queue < 8) × (getD pushes (e .queue) 0 ≤ j)) (sym g) (queue-low, omega (arith, s .is (f j .queue) queue-low, count-le (pushOn f (f j .queue)) j))
+  low-told e g = subst (λ (e : Entry). (e .queue < 8) × (getD pushes (e .queue) 0 ≤ j)) (sym g)
+      (queue-low, omega (arith, s .is (f j .queue) queue-low, count-le (pushOn f (f j .queue)) j))
 
   pub full-told : (e : Entry) → e ≡ f j → (t : Bool) → t ≡ same Full (what e) → (t && ltb (getD pushes (e .queue) 0) C) ≡ breaks6 f n C j
   full-told e g = subst (λ (e : Entry). (t : Bool) → t ≡ same Full (what e) → (t && ltb (getD pushes (e .queue) 0) C) ≡ breaks6 f n C j) (sym g) base
     where
-      base : (t : Bool) → t ≡ same Full (what (f j)) → (t && ltb (getD pushes (f j .queue) 0) C) ≡ (same Full (what (f j)) && ltb (donePushes f n (f j .queue) (2 * f j .start)) C)
+      base : (t : Bool) → t ≡ same Full (what (f j)) → (t && ltb (getD pushes (f j .queue) 0) C) ≡ (same Full (what (f j)) && ltb
+          (donePushes f n (f j .queue) (2 * f j .start)) C)
       base true e = ap (λ (x : ℕ). ltb x C) (s .is (f j .queue) queue-low ∙ sym (done-is f n r j below (sym (same-true Full (what (f j)) (sym e)))))
           ∙ ap (λ (t : Bool). t && ltb (donePushes f n (f j .queue) (2 * f j .start)) C) e
       base false e = ap (λ (t : Bool). t && ltb (donePushes f n (f j .queue) (2 * f j .start)) C) e
 
-  next : (x : ℕ) (t : Bool) → t ≡ same Pushed (what (f j)) → x ≡ cond t (getD pushes (f j .queue) 0 + 1) (getD pushes (f j .queue) 0) → Counted f (j + 1) (set pushes (f j .queue) x)
+  next : (x : ℕ) (t : Bool) → t ≡ same Pushed (what (f j)) → x ≡ cond t (getD pushes (f j .queue) 0 + 1) (getD pushes (f j .queue) 0)
+      → Counted f (j + 1) (set pushes (f j .queue) x)
   next x t e g = record { long = simp length-set (s .long); is = λ y u. is y u (ℕ-discrete y (f j .queue)) }
     where
       q : ℕ
@@ -115,7 +122,8 @@ module _ (f : ℕ → Entry) (n : ℕ) (r : Timed f n) (C j : ℕ) (below : j < 
       is : (y : ℕ) → y < 8 → Dec (y ≡ q) → getD (set pushes q x) y 0 ≡ count (pushOn f y) (j + 1)
       is y u (yes d) =
           ap (λ (z : ℕ). getD (set pushes q x) z 0) d ∙ getD-set-same pushes q x 0 (omega (arith, s .long, queue-low))
-          ∙ count-next (pushOn f q) j (getD pushes q 0) x t (e ∙ sym (mine q refl)) (s .is q queue-low) g ∙ ap (λ (z : ℕ). count (pushOn f z) (j + 1)) (sym d)
+          ∙ count-next (pushOn f q) j (getD pushes q 0) x t (e ∙ sym (mine q refl)) (s .is q queue-low) g
+          ∙ ap (λ (z : ℕ). count (pushOn f z) (j + 1)) (sym d)
         where
           mine : (z : ℕ) → q ≡ z → pushOn f z j ≡ same Pushed (what (f j))
           mine z h = ap (λ (b : Bool). same Pushed (what (f j)) && b) (eq-eqb q z h) ∙ and-true (same Pushed (what (f j)))
@@ -126,5 +134,7 @@ module _ (f : ℕ → Entry) (n : ℕ) (r : Timed f n) (C j : ℕ) (below : j < 
           other : (q ≡ y → ⊥) → pushOn f y j ≡ false
           other h = ap (λ (b : Bool). same Pushed (what (f j)) && b) (ne-eqb q y h) ∙ and-false (same Pushed (what (f j)))
 
-  pub next-told : (e : Entry) → e ≡ f j → (x : ℕ) (t : Bool) → t ≡ same Pushed (what e) → x ≡ cond t (getD pushes (e .queue) 0 + 1) (getD pushes (e .queue) 0) → Counted f (j + 1) (set pushes (e .queue) x)
-  next-told e g = subst (λ (e : Entry). (x : ℕ) (t : Bool) → t ≡ same Pushed (what e) → x ≡ cond t (getD pushes (e .queue) 0 + 1) (getD pushes (e .queue) 0) → Counted f (j + 1) (set pushes (e .queue) x)) (sym g) next
+  pub next-told : (e : Entry) → e ≡ f j → (x : ℕ) (t : Bool) → t ≡ same Pushed (what e)
+      → x ≡ cond t (getD pushes (e .queue) 0 + 1) (getD pushes (e .queue) 0) → Counted f (j + 1) (set pushes (e .queue) x)
+  next-told e g = subst (λ (e : Entry). (x : ℕ) (t : Bool) → t ≡ same Pushed (what e)
+      → x ≡ cond t (getD pushes (e .queue) 0 + 1) (getD pushes (e .queue) 0) → Counted f (j + 1) (set pushes (e .queue) x)) (sym g) next

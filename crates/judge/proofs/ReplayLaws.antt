@@ -66,8 +66,10 @@ module _ (f : ℕ → Entry) (n : ℕ) (keys : List ℕ) (count : ℕ) (o : Orde
       split (no p) (no d) = let e : a ≡ k = omega arith in absurd (omega (arith, ap (momentAt keys) e))
 
   -- nothing happens from just after the first k moments to the next
-  quiet : (q k b : ℕ) → k ≤ count → (k < count → b ≤ momentAt keys k) → (y : ℕ) → instant keys k ≤ y → y < b → (i : ℕ) → i < n → happens q y (f i) ≡ false
-  quiet q k b s h y lo hi i u = not-so (happens q y (f i)) (λ t. let e = happening q y i u t in split (e .at) (e .below) (e .moment) (decLt (e .at) k) (decLt k (e .at)))
+  quiet : (q k b : ℕ) → k ≤ count → (k < count → b ≤ momentAt keys k) → (y : ℕ) → instant keys k ≤ y → y < b → (i : ℕ) → i < n
+      → happens q y (f i) ≡ false
+  quiet q k b s h y lo hi i u = not-so (happens q y (f i)) (λ t. let e = happening q y i u t in split (e .at) (e .below) (e .moment) (decLt (e .at) k)
+      (decLt k (e .at)))
     where
       split : (a : ℕ) → a < count → momentAt keys a ≡ y → Dec (a < k) → Dec (k < a) → ⊥
       split a v e (yes p) d = omega (arith, passed a k p s)
@@ -88,7 +90,8 @@ module _ (f : ℕ → Entry) (n : ℕ) (keys : List ℕ) (count : ℕ) (o : Orde
   other-is q k u ne = before-quiet f n q (momentAt keys k) (λ i v. not-so (happens q (momentAt keys k) (f i)) (λ t.
       let e = happening q (momentAt keys k) i v t in
       let g : indexAt keys k ≡ i = ap (indexAt keys) (one-key k (e .at) u (e .below) (sym (e .moment))) ∙ e .is in
-      ne (ap (λ (x : ℕ). f x .queue) g ∙ eqb-true (f i .queue) q (and-1 (bears (f i)) (eqb (f i .queue) q) (and-0 (on q (f i)) (eqb (f i .moment) (momentAt keys k)) t)))))
+      ne (ap (λ (x : ℕ). f x .queue) g ∙ eqb-true (f i .queue) q (and-1 (bears (f i)) (eqb (f i .queue) q)
+      (and-0 (on q (f i)) (eqb (f i .moment) (momentAt keys k)) t)))))
       ∙ now-is q k u
 
   -- of the call's own queue
@@ -107,22 +110,29 @@ module _ (f : ℕ → Entry) (n : ℕ) (keys : List ℕ) (count : ℕ) (o : Orde
       ∙ ap (λ (c : List ℕ). applied (what (f j)) (f j .node) c) (now-is q k u)
 
   -- rule 4: the first unlawful one by the keys, or none
-  pub worst-is : (k : ℕ) → k < count → breaks4 f n (indexAt keys k) ≡ true → ((a : ℕ) → a < k → breaks4 f n (indexAt keys a) ≡ false) → indexAt keys k ≡ first4 f n
+  pub worst-is : (k : ℕ) → k < count → breaks4 f n (indexAt keys k) ≡ true → ((a : ℕ) → a < k → breaks4 f n (indexAt keys a) ≡ false)
+      → indexAt keys k ≡ first4 f n
   worst-is k u t fine =
       let j = indexAt keys k in
       let le = lowest-le (breaks4 f n) (λ i. f i .moment) n j (o .index k u) t in
-      let z : Hit (breaks4 f n) (λ i. f i .moment) n (worst4 f n) = lowest-is (breaks4 f n) (λ i. f i .moment) n (omega (arith, le, o .moment k u, o .small k u)) in
+      let z : Hit (breaks4 f n) (λ i. f i .moment) n (worst4 f n) = lowest-is (breaks4 f n) (λ i. f i .moment) n
+      (omega (arith, le, o .moment k u, o .small k u)) in
       let e = event-of (z .at) (z .below) (and-0 (bears (f (z .at))) (not (lawfulAt f n (f (z .at)))) (z .passes)) in
-      let w : worst4 f n ≡ momentAt keys k = same-moment (z .at) (z .passes) (e .at) (e .below) (e .is) (omega (arith, e .moment, z .keyed)) (omega (arith, le, o .moment k u)) (decLt (e .at) k) (decLt k (e .at)) in
+      let w : worst4 f n ≡ momentAt keys k = same-moment (z .at) (z .passes) (e .at) (e .below) (e .is) (omega (arith, e .moment, z .keyed))
+      (omega (arith, le, o .moment k u)) (decLt (e .at) k) (decLt k (e .at)) in
       let p : ℕ → Bool = λ j. breaks4 f n j && eqb (f j .moment) (worst4 f n) in
       let y : p j ≡ true = and-i t (eq-eqb (f j .moment) (worst4 f n) (o .moment k u ∙ sym w)) in
       let h : first4 f n < n = omega (arith, first-hit p 0 n j (omega arith) (omega (arith, o .index k u)) y, o .index k u) in
       let x = first-is p 0 n (omega arith) in
-      let v = event-of (first4 f n) h (and-0 (bears (f (first4 f n))) (not (lawfulAt f n (f (first4 f n)))) (and-0 (breaks4 f n (first4 f n)) (eqb (f (first4 f n) .moment) (worst4 f n)) x)) in
-      let m : momentAt keys k ≡ momentAt keys (v .at) = sym w ∙ sym (eqb-true (f (first4 f n) .moment) (worst4 f n) (and-1 (breaks4 f n (first4 f n)) (eqb (f (first4 f n) .moment) (worst4 f n)) x)) ∙ sym (v .moment) in
+      let v = event-of (first4 f n) h (and-0 (bears (f (first4 f n))) (not (lawfulAt f n (f (first4 f n))))
+      (and-0 (breaks4 f n (first4 f n)) (eqb (f (first4 f n) .moment) (worst4 f n)) x)) in
+      let m : momentAt keys k ≡ momentAt keys (v .at) = sym w
+      ∙ sym (eqb-true (f (first4 f n) .moment) (worst4 f n) (and-1 (breaks4 f n (first4 f n)) (eqb (f (first4 f n) .moment) (worst4 f n)) x))
+      ∙ sym (v .moment) in
       ap (indexAt keys) (one-key k (v .at) u (v .below) m) ∙ v .is
     where
-      same-moment : (i : ℕ) → breaks4 f n i ≡ true → (a : ℕ) → a < count → indexAt keys a ≡ i → momentAt keys a ≡ worst4 f n → worst4 f n ≤ momentAt keys k → Dec (a < k) → Dec (k < a) → worst4 f n ≡ momentAt keys k
+      same-moment : (i : ℕ) → breaks4 f n i ≡ true → (a : ℕ) → a < count → indexAt keys a ≡ i → momentAt keys a ≡ worst4 f n
+          → worst4 f n ≤ momentAt keys k → Dec (a < k) → Dec (k < a) → worst4 f n ≡ momentAt keys k
       same-moment i b a v g m le (yes p) d = contra (breaks4 f n i) b (sym (ap (breaks4 f n) g) ∙ fine a p)
       same-moment i b a v g m le (no p) (yes d) = absurd (omega (arith, o .rising k a d v))
       same-moment i b a v g m le (no p) (no d) = let e : a ≡ k = omega arith in sym m ∙ ap (momentAt keys) e

@@ -37,7 +37,8 @@ module _ (l : List ℕ) (lo hi i v : ℕ) where
       split (yes p) = ap (drop lo) (take-set-lt hi l i v p) ∙ drop-set-lt lo (take hi l) i v h
       split (no p) = past (omega arith)
 
-pub moved-is : (w : What) (l : List ℕ) (lo hi v : ℕ) → lo ≤ hi → hi < length l → slice (loAfter w lo hi) (hiAfter w lo hi) (set l hi v) ≡ applied w v (slice lo hi l)
+pub moved-is : (w : What) (l : List ℕ) (lo hi v : ℕ) → lo ≤ hi → hi < length l
+    → slice (loAfter w lo hi) (hiAfter w lo hi) (set l hi v) ≡ applied w v (slice lo hi l)
 moved-is Pushed l lo hi v h k = content-push l lo hi v h k
 moved-is Full l lo hi v h k = past l lo hi hi v (omega arith)
 moved-is BottomNode l lo hi v h k = split (leb hi lo) refl
@@ -122,7 +123,8 @@ row-at (suc (suc (suc (suc (suc (suc zero)))))) u = refl
 row-at (suc (suc (suc (suc (suc (suc (suc zero))))))) u = refl
 row-at (suc (suc (suc (suc (suc (suc (suc (suc q)))))))) u = absurd (omega arith)
 
-pub replay-start : (f : ℕ → Entry) (n : ℕ) (keys nodes added : List ℕ) → length nodes ≡ 2048 → length added ≡ 256 → Replayed f n keys 0 nodes rows rows added 0
+pub replay-start : (f : ℕ → Entry) (n : ℕ) (keys nodes added : List ℕ) → length nodes ≡ 2048 → length added ≡ 256
+    → Replayed f n keys 0 nodes rows rows added 0
 replay-start f n keys nodes added h g = record {
   nodes-long = h;
   lo-long = refl;
@@ -160,7 +162,8 @@ module _ (f : ℕ → Entry) (n : ℕ) (keys : List ℕ) (count : ℕ) (o : Orde
             let g = eqb-true (getD added (z .at) 0) (f j .node) (z .passes) in
             let u : a < count = omega (arith, y .below) in
             any-i (λ x. addedBefore (f j) (f x)) n x (o .index a u)
-            (and-i (and-i p (eq-eqb (f x .node) (f j .node) (e ∙ g))) (lt-ltb (f x .moment) (f j .moment) (omega (arith, o .moment a u, o .moment k inside, o .rising a k (y .below) inside))))
+            (and-i (and-i p (eq-eqb (f x .node) (f j .node) (e ∙ g))) (lt-ltb (f x .moment) (f j .moment)
+            (omega (arith, o .moment a u, o .moment k inside, o .rising a k (y .below) inside))))
 
         from : Found (λ x. addedBefore (f j) (f x)) n → any (λ i. eqb (getD added i 0) (f j .node)) c ≡ true
         from z =
@@ -168,12 +171,14 @@ module _ (f : ℕ → Entry) (n : ℕ) (keys : List ℕ) (count : ℕ) (o : Orde
             let h = and-0 (same Pushed (what (f x)) && eqb (f x .node) (f j .node)) (ltb (f x .moment) (f j .moment)) (z .passes) in
             let p = and-0 (same Pushed (what (f x))) (eqb (f x .node) (f j .node)) h in
             let g = eqb-true (f x .node) (f j .node) (and-1 (same Pushed (what (f x))) (eqb (f x .node) (f j .node)) h) in
-            let m = ltb-true (f x .moment) (f j .moment) (and-1 (same Pushed (what (f x)) && eqb (f x .node) (f j .node)) (ltb (f x .moment) (f j .moment)) (z .passes)) in
+            let m = ltb-true (f x .moment) (f j .moment) (and-1 (same Pushed (what (f x)) && eqb (f x .node) (f j .node))
+            (ltb (f x .moment) (f j .moment)) (z .passes)) in
             let e = event-of f n keys count o x (z .below) (pushed-bears (what (f x)) p) in
             let u = passed-back f n keys count o (e .at) k (e .below) inside (omega (arith, e .moment, o .moment k inside)) in
             let y = s .all (e .at) u (ap (λ (i : ℕ). same Pushed (what (f i))) (e .is) ∙ p) in
             any-i (λ i. eqb (getD added i 0) (f j .node)) c (y .at) (y .below)
-            (eq-eqb (getD added (y .at) 0) (f j .node) (eqb-true (getD added (y .at) 0) (f (indexAt keys (e .at)) .node) (y .passes) ∙ ap (λ (i : ℕ). f i .node) (e .is) ∙ g))
+            (eq-eqb (getD added (y .at) 0) (f j .node) (eqb-true (getD added (y .at) 0) (f (indexAt keys (e .at)) .node) (y .passes)
+            ∙ ap (λ (i : ℕ). f i .node) (e .is) ∙ g))
 
     -- the next call's node is stored; it counts where it was pushed
     pub added-next : (t : Bool) → t ≡ isPush f keys k → c < 256 → Added f keys (k + 1) (set added c (f j .node)) (cond t (c + 1) c)
@@ -188,7 +193,8 @@ module _ (f : ℕ → Entry) (n : ℕ) (keys : List ℕ) (count : ℕ) (o : Orde
       all = λ a u t. all a u t (ℕ-discrete a k);
     }
       where
-        all : (a : ℕ) → a < k + 1 → isPush f keys a ≡ true → Dec (a ≡ k) → Found (λ i. eqb (getD (set added c (f j .node)) i 0) (f (indexAt keys a) .node)) c
+        all : (a : ℕ) → a < k + 1 → isPush f keys a ≡ true → Dec (a ≡ k)
+            → Found (λ i. eqb (getD (set added c (f j .node)) i 0) (f (indexAt keys a) .node)) c
         all a u t (yes g) = contra (isPush f keys a) t (ap (isPush f keys) g ∙ sym e)
         all a u t (no g) =
             let z = s .all a (omega arith) t in
@@ -204,18 +210,26 @@ module _ (f : ℕ → Entry) (n : ℕ) (keys : List ℕ) (count : ℕ) (o : Orde
         here : getD (set added c (f j .node)) c 0 ≡ f j .node
         here = getD-set-same added c (f j .node) 0 (omega (arith, s .long))
 
-        sound : (i : ℕ) → i < c + 1 → Dec (i ≡ c) → Found (λ a. isPush f keys a && eqb (f (indexAt keys a) .node) (getD (set added c (f j .node)) i 0)) (k + 1)
+        sound : (i : ℕ) → i < c + 1 → Dec (i ≡ c) → Found (λ a. isPush f keys a && eqb (f (indexAt keys a) .node)
+            (getD (set added c (f j .node)) i 0)) (k + 1)
         sound i u (yes g) = record {
           at = k;
           below = omega arith;
-          passes = and-i (sym e) (eq-eqb (f j .node) (getD (set added c (f j .node)) i 0) (sym (ap (λ (x : ℕ). getD (set added c (f j .node)) x 0) g ∙ here)));
+          passes = and-i (sym e) (eq-eqb (f j .node) (getD (set added c (f j .node)) i 0)
+              (sym (ap (λ (x : ℕ). getD (set added c (f j .node)) x 0) g ∙ here)));
         }
         sound i u (no g) =
             let z = s .sound i (omega arith) in
             record { at = z .at; below = omega (arith, z .below); passes = rw (getD-set-other added c i (f j .node) 0 g) (z .passes) }
 
-        all : (a : ℕ) → a < k + 1 → isPush f keys a ≡ true → Dec (a ≡ k) → Found (λ i. eqb (getD (set added c (f j .node)) i 0) (f (indexAt keys a) .node)) (c + 1)
-        all a u t (yes g) = record { at = c; below = omega arith; passes = eq-eqb (getD (set added c (f j .node)) c 0) (f (indexAt keys a) .node) (here ∙ ap (λ (x : ℕ). f (indexAt keys x) .node) (sym g)) }
+        all : (a : ℕ) → a < k + 1 → isPush f keys a ≡ true → Dec (a ≡ k)
+            → Found (λ i. eqb (getD (set added c (f j .node)) i 0) (f (indexAt keys a) .node)) (c + 1)
+        all a u t (yes g) = record {
+          at = c;
+          below = omega arith;
+          passes = eq-eqb (getD (set added c (f j .node)) c 0) (f (indexAt keys a) .node)
+              (here ∙ ap (λ (x : ℕ). f (indexAt keys x) .node) (sym g));
+        }
         all a u t (no g) =
             let z = s .all a (omega arith) t in
             let ne : z .at ≡ c → ⊥ = λ g. omega (arith, z .below) in
@@ -243,17 +257,24 @@ module _ (f : ℕ → Entry) (n : ℕ) (keys : List ℕ) (count : ℕ) (o : Orde
     pub ok-is : (old push : Bool) → push ≡ isPush f keys k → old ≡ any (λ i. eqb (getD added i 0) (f j .node)) (cond push c 0)
         → lawful (not old) (what (f j)) (f j .node) (slice l h nodes) ≡ lawfulAt f n (f j)
     ok-is old push p e =
-        ap (λ (d : List ℕ). lawful (not old) (what (f j)) (f j .node) d) (s .row q queue-low .holds ∙ sym (now-is f n keys count o q k inside) ∙ ap (before f n q) (sym (o .moment k inside)))
+        ap (λ (d : List ℕ). lawful (not old) (what (f j)) (f j .node) d)
+        (s .row q queue-low .holds ∙ sym (now-is f n keys count o q k inside) ∙ ap (before f n q) (sym (o .moment k inside)))
         ∙ lawful-new (what (f j)) (not old) (fresh f n (f j)) (f j .node) (before f n q (f j .moment)) (λ w.
-        ap not (e ∙ ap (λ (t : Bool). any (λ i. eqb (getD added i 0) (f j .node)) (cond t c 0)) (p ∙ ap (same Pushed) w) ∙ fresh-is added c (s .pushes)))
+        ap not (e ∙ ap (λ (t : Bool). any (λ i. eqb (getD added i 0) (f j .node)) (cond t c 0)) (p ∙ ap (same Pushed) w)
+        ∙ fresh-is added c (s .pushes)))
 
     rows-next : (x : ℕ) → x < 8 → Dec (x ≡ q)
-        → Row f n keys (k + 1) (set nodes h (f j .node)) x (getD (set lo q (loAfter (what (f j)) l h)) x 0) (getD (set hi q (hiAfter (what (f j)) l h)) x 0)
+        → Row f n keys (k + 1) (set nodes h (f j .node)) x (getD (set lo q (loAfter (what (f j)) l h)) x 0)
+        (getD (set hi q (hiAfter (what (f j)) l h)) x 0)
     rows-next x u (yes e) =
         let r = s .row q queue-low in
         let b = bounds (what (f j)) l h (r .low) in
-        let e1 : getD (set lo q (loAfter (what (f j)) l h)) x 0 ≡ loAfter (what (f j)) l h = ap (λ (y : ℕ). getD (set lo q (loAfter (what (f j)) l h)) y 0) e ∙ getD-set-same lo q (loAfter (what (f j)) l h) 0 (omega (arith, s .lo-long, queue-low)) in
-        let e2 : getD (set hi q (hiAfter (what (f j)) l h)) x 0 ≡ hiAfter (what (f j)) l h = ap (λ (y : ℕ). getD (set hi q (hiAfter (what (f j)) l h)) y 0) e ∙ getD-set-same hi q (hiAfter (what (f j)) l h) 0 (omega (arith, s .hi-long, queue-low)) in
+        let e1 : getD (set lo q (loAfter (what (f j)) l h)) x 0 ≡ loAfter (what (f j)) l h = ap
+        (λ (y : ℕ). getD (set lo q (loAfter (what (f j)) l h)) y 0) e
+        ∙ getD-set-same lo q (loAfter (what (f j)) l h) 0 (omega (arith, s .lo-long, queue-low)) in
+        let e2 : getD (set hi q (hiAfter (what (f j)) l h)) x 0 ≡ hiAfter (what (f j)) l h = ap
+        (λ (y : ℕ). getD (set hi q (hiAfter (what (f j)) l h)) y 0) e
+        ∙ getD-set-same hi q (hiAfter (what (f j)) l h) 0 (omega (arith, s .hi-long, queue-low)) in
         record {
           holds = ap (λ (y : ℕ). slice y (getD (set hi q (hiAfter (what (f j)) l h)) x 0) (set nodes h (f j .node))) e1
               ∙ ap (λ (y : ℕ). slice (loAfter (what (f j)) l h) y (set nodes h (f j .node))) e2
@@ -275,7 +296,8 @@ module _ (f : ℕ → Entry) (n : ℕ) (keys : List ℕ) (count : ℕ) (o : Orde
         record {
           holds = ap (λ (y : ℕ). slice y (getD (set hi q (hiAfter (what (f j)) l h)) x 0) (set nodes h (f j .node))) e1
               ∙ ap (λ (y : ℕ). slice (getD lo x 0) y (set nodes h (f j .node))) e2
-              ∙ apart (decLt x q) ∙ r .holds ∙ sym (other-is f n keys count o x k inside (λ t. e (sym t))) ∙ ap (λ (y : ℕ). before f n x (instant keys y)) step;
+              ∙ apart (decLt x q) ∙ r .holds ∙ sym (other-is f n keys count o x k inside (λ t. e (sym t)))
+              ∙ ap (λ (y : ℕ). before f n x (instant keys y)) step;
           from = omega (arith, r .from);
           low = omega (arith, r .low);
           high = omega (arith, r .high);
@@ -285,12 +307,14 @@ module _ (f : ℕ → Entry) (n : ℕ) (keys : List ℕ) (count : ℕ) (o : Orde
         step = omega arith
 
         apart : Dec (x < q) → slice (getD lo x 0) (getD hi x 0) (set nodes h (f j .node)) ≡ slice (getD lo x 0) (getD hi x 0) nodes
-        apart (yes p) = past nodes (getD lo x 0) (getD hi x 0) h (f j .node) (omega (arith, s .row x u .high, s .row q queue-low .from, s .row q queue-low .low, o .few))
+        apart (yes p) = past nodes (getD lo x 0) (getD hi x 0) h (f j .node)
+            (omega (arith, s .row x u .high, s .row q queue-low .from, s .row q queue-low .low, o .few))
         apart (no p) = ahead nodes (getD lo x 0) (getD hi x 0) h (f j .node) (omega (arith, s .row x u .from, s .row q queue-low .high, o .few))
 
     -- one turn, of a lawful call
     pub replay-next : (push : Bool) → push ≡ isPush f keys k → lawfulAt f n (f j) ≡ true
-        → Replayed f n keys (k + 1) (set nodes h (f j .node)) (set lo q (loAfter (what (f j)) l h)) (set hi q (hiAfter (what (f j)) l h)) (set added c (f j .node)) (cond push (c + 1) c)
+        → Replayed f n keys (k + 1) (set nodes h (f j .node)) (set lo q (loAfter (what (f j)) l h)) (set hi q (hiAfter (what (f j)) l h))
+        (set added c (f j .node)) (cond push (c + 1) c)
     replay-next push p ok = record {
       nodes-long = simp length-set (s .nodes-long);
       lo-long = simp length-set (s .lo-long);
@@ -317,19 +341,24 @@ module _ (f : ℕ → Entry) (n : ℕ) (keys : List ℕ) (count : ℕ) (o : Orde
     told e e₁ = subst Told (sym e₁) (record { queue = queue-low; low = s .row q queue-low .low; high = hi-low })
 
     pub ok-told : (e : Entry) → e ≡ f j → (did : What) (push old ok : Bool) (m : ℕ) → did ≡ what e → push ≡ same Pushed (what e) → m ≡ cond push c 0
-        → old ≡ any (λ i. eqb (getD added i 0) (e .node)) m → ok ≡ lawful (not old) did (e .node) (slice (getD lo (e .queue) 0) (getD hi (e .queue) 0) nodes) → ok ≡ lawfulAt f n (f j)
+        → old ≡ any (λ i. eqb (getD added i 0) (e .node)) m → ok ≡ lawful (not old) did (e .node)
+        (slice (getD lo (e .queue) 0) (getD hi (e .queue) 0) nodes) → ok ≡ lawfulAt f n (f j)
     ok-told e e₁ = subst (λ (e : Entry). (did : What) (push old ok : Bool) (m : ℕ) → did ≡ what e → push ≡ same Pushed (what e) → m ≡ cond push c 0
-        → old ≡ any (λ i. eqb (getD added i 0) (e .node)) m → ok ≡ lawful (not old) did (e .node) (slice (getD lo (e .queue) 0) (getD hi (e .queue) 0) nodes) → ok ≡ lawfulAt f n (f j))
+        → old ≡ any (λ i. eqb (getD added i 0) (e .node)) m → ok ≡ lawful (not old) did (e .node)
+        (slice (getD lo (e .queue) 0) (getD hi (e .queue) 0) nodes) → ok ≡ lawfulAt f n (f j))
         (sym e₁)
         (λ did push old ok m e₂ e₃ e₄ e₅ e₆. e₆ ∙ ap (λ (w : What). lawful (not old) w (f j .node) (slice l h nodes)) e₂
         ∙ ok-is old push e₃ (e₅ ∙ ap (any (λ i. eqb (getD added i 0) (f j .node))) e₄))
 
     pub turn-told : (e : Entry) → e ≡ f j → (did : What) (push : Bool) (a b d : ℕ) → did ≡ what e → push ≡ same Pushed (what e)
-        → a ≡ loAfter did (getD lo (e .queue) 0) (getD hi (e .queue) 0) → b ≡ hiAfter did (getD lo (e .queue) 0) (getD hi (e .queue) 0) → d ≡ cond push (c + 1) c → lawfulAt f n (f j) ≡ true
+        → a ≡ loAfter did (getD lo (e .queue) 0) (getD hi (e .queue) 0) → b ≡ hiAfter did (getD lo (e .queue) 0) (getD hi (e .queue) 0)
+        → d ≡ cond push (c + 1) c → lawfulAt f n (f j) ≡ true
         → Replayed f n keys (k + 1) (set nodes (getD hi (e .queue) 0) (e .node)) (set lo (e .queue) a) (set hi (e .queue) b) (set added c (e .node)) d
     turn-told e e₁ = subst (λ (e : Entry). (did : What) (push : Bool) (a b d : ℕ) → did ≡ what e → push ≡ same Pushed (what e)
-        → a ≡ loAfter did (getD lo (e .queue) 0) (getD hi (e .queue) 0) → b ≡ hiAfter did (getD lo (e .queue) 0) (getD hi (e .queue) 0) → d ≡ cond push (c + 1) c → lawfulAt f n (f j) ≡ true
-        → Replayed f n keys (k + 1) (set nodes (getD hi (e .queue) 0) (e .node)) (set lo (e .queue) a) (set hi (e .queue) b) (set added c (e .node)) d)
+        → a ≡ loAfter did (getD lo (e .queue) 0) (getD hi (e .queue) 0) → b ≡ hiAfter did (getD lo (e .queue) 0) (getD hi (e .queue) 0)
+        → d ≡ cond push (c + 1) c → lawfulAt f n (f j) ≡ true
+        → Replayed f n keys (k + 1) (set nodes (getD hi (e .queue) 0) (e .node)) (set lo (e .queue) a) (set hi (e .queue) b) (set added c (e .node))
+        d)
         (sym e₁)
         (λ did push a b d e₂ e₃ e₄ e₅ e₆ ok. rw (e₄, e₅, e₆, e₂) (replay-next push e₃ ok))
 

@@ -121,7 +121,8 @@ module _ (f : ℕ → Entry) (n : ℕ) (keys : List ℕ) (count : ℕ) (o : Orde
   new-or-old : (i : ℕ) → i < n → bears (f i) ≡ true → f i .moment < suc m → (i ≡ j) ⊎ (f i .moment < instant keys k)
   new-or-old i u b h = let e = event-of f n keys count o i u b in split (e .at) (e .below) (e .is) (e .moment) (decLt (e .at) k) (decLt k (e .at))
     where
-      split : (a : ℕ) → a < count → indexAt keys a ≡ i → momentAt keys a ≡ f i .moment → Dec (a < k) → Dec (k < a) → (i ≡ j) ⊎ (f i .moment < instant keys k)
+      split : (a : ℕ) → a < count → indexAt keys a ≡ i → momentAt keys a ≡ f i .moment → Dec (a < k) → Dec (k < a)
+          → (i ≡ j) ⊎ (f i .moment < instant keys k)
       split a v g w (yes p) d = inr (omega (arith, passed f n keys count o a k p (omega arith)))
       split a v g w (no p) (yes d) = absurd (omega (arith, o .rising k a d v))
       split a v g w (no p) (no d) = let e : a ≡ k = omega arith in inl (sym g ∙ ap (indexAt keys) e)
@@ -142,7 +143,8 @@ module _ (f : ℕ → Entry) (n : ℕ) (keys : List ℕ) (count : ℕ) (o : Orde
       since : 0 < held → (x : ℕ) → filled < x → x ≤ suc m → Dec (instant keys k < x) → Dec (m < x) → isEmpty (before f n q x) ≡ false
       since h x a b (no p) d = s .since h x a (omega arith)
       since h x a b (yes p) (no d) = ap isEmpty (until q x (omega arith) (omega arith)) ∙ some h
-      since h x a b (yes p) (yes d) = let e : x ≡ suc m = omega arith in ap (λ (y : ℕ). isEmpty (before f n q y)) e ∙ ap isEmpty (other-is f n keys count o q k inside ne) ∙ some h
+      since h x a b (yes p) (yes d) = let e : x ≡ suc m = omega arith in ap (λ (y : ℕ). isEmpty (before f n q y)) e
+          ∙ ap isEmpty (other-is f n keys count o q k inside ne) ∙ some h
 
   -- the call's own queue
   shelf-own : (held filled : ℕ) (t : Bool) → t ≡ (same Pushed (what (f j)) && eqb held 0) → Shelf f n keys k (f j .queue) held filled
@@ -153,7 +155,8 @@ module _ (f : ℕ → Entry) (n : ℕ) (keys : List ℕ) (count : ℕ) (o : Orde
       q = f j .queue
 
       is : heldAfter (what (f j)) held ≡ length (before f n q (suc m))
-      is = ap (heldAfter (what (f j))) (s .is) ∙ sym (length-applied (what (f j)) (f j .node) (before f n q (instant keys k))) ∙ sym (ap length (own-is f n keys count o k inside))
+      is = ap (heldAfter (what (f j))) (s .is) ∙ sym (length-applied (what (f j)) (f j .node) (before f n q (instant keys k)))
+          ∙ sym (ap length (own-is f n keys count o k inside))
 
       last : 0 < heldAfter (what (f j)) held → isEmpty (before f n q (suc m)) ≡ false
       last h = full-of (before f n q (suc m)) (omega (arith, is))
@@ -162,7 +165,8 @@ module _ (f : ℕ → Entry) (n : ℕ) (keys : List ℕ) (count : ℕ) (o : Orde
       by true e = record {
         is = is;
         few = omega (arith, s .few, held-more (what (f j)) held);
-        empty = empty-of (before f n q m) (ap length (now-is f n keys count o q k inside) ∙ sym (s .is) ∙ eqb-true held 0 (and-1 (same Pushed (what (f j))) (eqb held 0) (sym e)));
+        empty = empty-of (before f n q m) (ap length (now-is f n keys count o q k inside) ∙ sym (s .is)
+            ∙ eqb-true held 0 (and-1 (same Pushed (what (f j))) (eqb held 0) (sym e)));
         early = omega arith;
         since = λ h x a b. let g : x ≡ suc m = omega arith in ap (λ (y : ℕ). isEmpty (before f n q y)) g ∙ last h;
       }
@@ -174,10 +178,12 @@ module _ (f : ℕ → Entry) (n : ℕ) (keys : List ℕ) (count : ℕ) (o : Orde
         since = λ h x a b. since h x a b (decLt (instant keys k) x) (decLt m x);
       }
         where
-          since : 0 < heldAfter (what (f j)) held → (x : ℕ) → filled < x → x ≤ suc m → Dec (instant keys k < x) → Dec (m < x) → isEmpty (before f n q x) ≡ false
+          since : 0 < heldAfter (what (f j)) held → (x : ℕ) → filled < x → x ≤ suc m → Dec (instant keys k < x) → Dec (m < x)
+              → isEmpty (before f n q x) ≡ false
           since h x a b (no p) d = s .since (held-from (what (f j)) held h (sym e)) x a (omega arith)
           since h x a b (yes p) (no d) =
-              ap isEmpty (until q x (omega arith) (omega arith)) ∙ full-of (before f n q (instant keys k)) (omega (arith, s .is, held-from (what (f j)) held h (sym e)))
+              ap isEmpty (until q x (omega arith) (omega arith))
+              ∙ full-of (before f n q (instant keys k)) (omega (arith, s .is, held-from (what (f j)) held h (sym e)))
           since h x a b (yes p) (yes d) = let g : x ≡ suc m = omega arith in ap (λ (y : ℕ). isEmpty (before f n q y)) g ∙ last h
 
   top-bears : (w : What) → same TopNode w ≡ true → bearsMoment w ≡ true
@@ -189,12 +195,19 @@ module _ (f : ℕ → Entry) (n : ℕ) (keys : List ℕ) (count : ℕ) (o : Orde
   -- a pair of queue and process of which the call is no take
   taken-other : (q p t : ℕ) → (takes f q p j ≡ true → ⊥) → Taken f n keys k q p t → Taken f n keys (suc k) q p t
   taken-other q p t ne s = record {
-    above = λ i u h w. above i u h (new-or-old i u (top-bears (what (f i)) (and-0 (top i) (eqb (f i .queue) q) (and-0 (top i && eqb (f i .queue) q) (eqb (f i .process) p) h))) w);
+    above = λ i u h w. above i u h (new-or-old i u (top-bears (what (f i))
+        (and-0 (top i) (eqb (f i .queue) q) (and-0 (top i && eqb (f i .queue) q) (eqb (f i .process) p) h))) w);
     met = λ y u.
         let z = s .met y u in
         let g = and-0 (takes f q p (z .at) && leb y (f (z .at) .moment)) (ltb (f (z .at) .moment) (instant keys k)) (z .passes) in
-        let w = ltb-true (f (z .at) .moment) (instant keys k) (and-1 (takes f q p (z .at) && leb y (f (z .at) .moment)) (ltb (f (z .at) .moment) (instant keys k)) (z .passes)) in
-        record { at = z .at; below = z .below; passes = and-i g (lt-ltb (f (z .at) .moment) (suc m) (omega (arith, instant-le f n keys count o k inside))) };
+        let w = ltb-true (f (z .at) .moment) (instant keys k) (and-1 (takes f q p (z .at) && leb y (f (z .at) .moment))
+        (ltb (f (z .at) .moment) (instant keys k)) (z .passes)) in
+        record {
+          at = z .at;
+          below = z .below;
+          passes = and-i g (lt-ltb (f (z .at) .moment) (suc m)
+              (omega (arith, instant-le f n keys count o k inside)));
+        };
   }
     where
       above : (i : ℕ) → i < n → takes f q p i ≡ true → (i ≡ j) ⊎ (f i .moment < instant keys k) → f i .moment < t
@@ -210,12 +223,14 @@ module _ (f : ℕ → Entry) (n : ℕ) (keys : List ℕ) (count : ℕ) (o : Orde
         met = λ y u. record {
           at = j;
           below = o .index k inside;
-          passes = and-i (and-i (and-i (and-i e (eq-eqb (f j .queue) (f j .queue) refl)) (eq-eqb (f j .process) (f j .process) refl)) (le-leb y (f j .moment) (omega (arith, o .moment k inside))))
+          passes = and-i (and-i (and-i (and-i e (eq-eqb (f j .queue) (f j .queue) refl)) (eq-eqb (f j .process) (f j .process) refl))
+              (le-leb y (f j .moment) (omega (arith, o .moment k inside))))
               (lt-ltb (f j .moment) (suc m) (omega (arith, o .moment k inside)));
         };
       }
       by false e = taken-other (f j .queue) (f j .process) t (λ h.
-          contra (top j) (and-0 (top j) (eqb (f j .queue) (f j .queue)) (and-0 (top j && eqb (f j .queue) (f j .queue)) (eqb (f j .process) (f j .process)) h)) e) s
+          contra (top j) (and-0 (top j) (eqb (f j .queue) (f j .queue))
+          (and-0 (top j && eqb (f j .queue) (f j .queue)) (eqb (f j .process) (f j .process)) h)) e) s
 
   module _ (held filled took : List ℕ) (s : Shelves f n keys k held filled took) (fields : Fields f n) where
     abbrev q : ℕ
@@ -244,19 +259,30 @@ module _ (f : ℕ → Entry) (n : ℕ) (keys : List ℕ) (count : ℕ) (o : Orde
         rw (
           e,
           getD-set-same held q (heldAfter (what (f j)) (getD held q 0)) 0 (omega (arith, s .held-long, q-low)),
-          getD-set-same filled q (cond (same Pushed (what (f j)) && eqb (getD held q 0) 0) (f j .moment) (getD filled q 0)) 0 (omega (arith, s .filled-long, q-low)),
+          getD-set-same filled q (cond (same Pushed (what (f j)) && eqb (getD held q 0) 0) (f j .moment) (getD filled q 0)) 0
+              (omega (arith, s .filled-long, q-low)),
           o .moment k inside,
         )
         (shelf-own (getD held q 0) (getD filled q 0) (same Pushed (what (f j)) && eqb (getD held q 0) 0) refl (s .shelf q q-low))
     shelf-next x u (no e) =
-        rw (getD-set-other held q x (heldAfter (what (f j)) (getD held q 0)) 0 e, getD-set-other filled q x (cond (same Pushed (what (f j)) && eqb (getD held q 0) 0) (f j .moment) (getD filled q 0)) 0 e)
+        rw (
+          getD-set-other held q x (heldAfter (what (f j)) (getD held q 0)) 0 e,
+          getD-set-other filled q x
+              (cond (same Pushed (what (f j)) && eqb (getD held q 0) 0) (f j .moment) (getD filled q 0)) 0 e,
+        )
         (shelf-other x (getD held x 0) (getD filled x 0) (λ t. e (sym t)) (s .shelf x u))
 
     taken-next : (x y : ℕ) → x < 8 → y < 8 → Dec (8 * x + y ≡ 8 * q + p) → Taken f n keys (suc k) x y (getD took′ (8 * x + y) 0)
     taken-next x y u v (yes e) =
         let a : x ≡ q = omega (arith, p-low) in
         let b : y ≡ p = omega (arith, p-low) in
-        rw (a, b, getD-set-same took (8 * q + p) (cond (top j) (f j .moment + 1) (getD took (8 * q + p) 0)) 0 (omega (arith, s .took-long, q-low, p-low)), o .moment k inside)
+        rw (
+          a,
+          b,
+          getD-set-same took (8 * q + p) (cond (top j) (f j .moment + 1) (getD took (8 * q + p) 0)) 0
+              (omega (arith, s .took-long, q-low, p-low)),
+          o .moment k inside,
+        )
         (taken-own (getD took (8 * q + p) 0) (s .taken q p q-low p-low))
     taken-next x y u v (no e) =
         rw (getD-set-other took (8 * q + p) (8 * x + y) (cond (top j) (f j .moment + 1) (getD took (8 * q + p) 0)) 0 e)

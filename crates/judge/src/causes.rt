@@ -77,7 +77,8 @@ fn uncaused(held: &[usize; 8], filled: &[usize; 8], took: &[usize; 64], nil: Ent
     (0 < h) & (f <= from) & !other
 }
 
-// The first entry that breaks rule 5, or n. Of each queue: how many nodes it holds, the moment at which it was filled, and for each process the moment after its last take.
+// The first entry that breaks rule 5, or n. Of each queue: how many nodes it holds, the moment at which it was filled, and for each process the
+// moment after its last take.
 pub(crate) fn first_uncaused(log: &[u8], n: usize, keys: &[usize; 256], count: usize) -> usize
     requires { ⌜ Clean (entryAt (now log)) n (now keys) count × Whole (now log) n ⌝ }
     ensures { λ r. ⌜ r ≡ first5 (entryAt (now (log .entry))) n ⌝ }

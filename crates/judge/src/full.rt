@@ -1,4 +1,5 @@
-// Rule 6: one pass in file order. A queue's pushes are its owner's, one after the other, so those before a FULL in the file are those with moments before its start.
+// Rule 6: one pass in file order. A queue's pushes are its owner's, one after the other, so those before a FULL in the file are those with moments
+// before its start.
 ghost use mathlib.Core.Path.{_≡_};
 ghost use Prim.Native.Nat.{_≤_};
 ghost use Rattle.log.specs.Decode.{entryAt};

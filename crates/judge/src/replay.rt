@@ -92,7 +92,8 @@ fn moved(lo: usize, hi: usize, did: What) -> Ends
     }
 }
 
-// The entry that breaks rule 4, the first by moment, or n. The node is put above each queue's bottom by every call; only a push then moves the bottom over it.
+// The entry that breaks rule 4, the first by moment, or n. The node is put above each queue's bottom by every call; only a push then moves the bottom
+// over it.
 pub(crate) fn first_unlawful(log: &[u8], n: usize, keys: &[usize; 256], count: usize) -> usize
     requires { ⌜ (n ≤ 256) × Fields (entryAt (now log)) n × Ordered (entryAt (now log)) n (now keys) count × Whole (now log) n ⌝ }
     ensures { λ r. ⌜ r ≡ first4 (entryAt (now (log .entry))) n ⌝ }

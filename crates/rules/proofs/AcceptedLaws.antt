@@ -108,7 +108,8 @@ module _ (f : ℕ → Entry) (n : ℕ) where
         (and-i (le-leb lo (d .moment) (z .from)) (le-leb (d .moment) hi (z .to))))
         (not-i (eqb (d .process) (e .process)) (λ t. z .other (eqb-true (d .process) (e .process) t)))) (top (z .topmost))))
       where
-        moved : (what (f (z .by)) ≡ TopNode) ⊎ ((what (f (z .by)) ≡ BottomNode) × (length (before f n (e .queue) (f (z .by) .moment)) ≡ 1)) → bears (f (z .by)) ≡ true
+        moved : (what (f (z .by)) ≡ TopNode) ⊎ ((what (f (z .by)) ≡ BottomNode) × (length (before f n (e .queue) (f (z .by) .moment)) ≡ 1))
+            → bears (f (z .by)) ≡ true
         moved (inl t) = ap bearsMoment t
         moved (inr t) = ap bearsMoment (t .0)
 
@@ -116,7 +117,8 @@ module _ (f : ℕ → Entry) (n : ℕ) where
             → takesTopmost (what (f (z .by))) (before f n (e .queue) (f (z .by) .moment)) ≡ true
         top (inl t) = ap (λ (w : What). takesTopmost w (before f n (e .queue) (f (z .by) .moment))) t
         top (inr t) =
-            ap (λ (w : What). takesTopmost w (before f n (e .queue) (f (z .by) .moment))) (t .0) ∙ eq-eqb (length (before f n (e .queue) (f (z .by) .moment))) 1 (t .1)
+            ap (λ (w : What). takesTopmost w (before f n (e .queue) (f (z .by) .moment))) (t .0)
+            ∙ eq-eqb (length (before f n (e .queue) (f (z .by) .moment))) 1 (t .1)
 
     cause-to : hasCause f n e ≡ true → EmptyIn f n e ⊎ RemovedIn f n e
     cause-to h = or-e empty taken h
@@ -138,7 +140,8 @@ module _ (f : ℕ → Entry) (n : ℕ) where
               by = z .at;
               below = z .below;
               queue = eqb-true (d .queue) (e .queue) (and-1 (bears d) (eqb (d .queue) (e .queue)) o);
-              other = λ p. not-e (eqb (d .process) (e .process)) (and-1 (on (e .queue) d && inCall e (d .moment)) other h3) (eq-eqb (d .process) (e .process) p);
+              other = λ p. not-e (eqb (d .process) (e .process)) (and-1 (on (e .queue) d && inCall e (d .moment)) other h3)
+                  (eq-eqb (d .process) (e .process) p);
               from = leb-true lo (d .moment) (and-0 (leb lo (d .moment)) (leb (d .moment) hi) i);
               to = leb-true (d .moment) hi (and-1 (leb lo (d .moment)) (leb (d .moment) hi) i);
               topmost = topmost (what d) c (and-1 (on (e .queue) d && inCall e (d .moment) && other) (takesTopmost (what d) c) (z .passes));
@@ -153,9 +156,11 @@ module _ (f : ℕ → Entry) (n : ℕ) where
       (says0 f n C (says 0 0)
       (none (breaks3 f) n (λ j u. rw (moment-back (f j) (g .rule3 j u)) (guarded (bears (f j)) (any (λ i. bearsAt (f j .moment) (f i)) j)
       (λ b. any-no (λ i. bearsAt (f j .moment) (f i)) j (λ i v. not-so (bearsAt (f j .moment) (f i)) (λ t.
-      g .differ i j v u (and-0 (bears (f i)) (eqb (f i .moment) (f j .moment)) t) b (eqb-true (f i .moment) (f j .moment) (and-1 (bears (f i)) (eqb (f i .moment) (f j .moment)) t))))))))
+      g .differ i j v u (and-0 (bears (f i)) (eqb (f i .moment) (f j .moment)) t) b
+      (eqb-true (f i .moment) (f j .moment) (and-1 (bears (f i)) (eqb (f i .moment) (f j .moment)) t))))))))
       (none (λ j. breaks4 f n j && eqb (f j .moment) (worst4 f n)) n (λ j u. ap (λ (t : Bool). t && eqb (f j .moment) (worst4 f n))
-      (guarded (bears (f j)) (not (lawfulAt f n (f j))) (λ b. ap not (lawful-from (f j) (before f n (f j .queue) (f j .moment)) (what (f j)) (g .rule4 j u))))))
+      (guarded (bears (f j)) (not (lawfulAt f n (f j))) (λ b. ap not (lawful-from (f j) (before f n (f j .queue) (f j .moment)) (what (f j))
+      (g .rule4 j u))))))
       (none (breaks5 f n) n (λ j u. guarded (same TopNil (what (f j))) (not (hasCause f n (f j)))
       (λ t. ap not (cause-from (f j) (g .rule5 j u (sym (same-true TopNil (what (f j)) t)))))))
       (none (breaks6 f n C) n (λ j u. guarded (same Full (what (f j))) (ltb (donePushes f n (f j .queue) (2 * f j .start)) C)
@@ -171,7 +176,8 @@ module _ (f : ℕ → Entry) (n : ℕ) where
       contra (breaks4 f n (z .at) && eqb (f (z .at) .moment) (worst4 f n)) (and-i (z .passes) (eq-eqb (f (z .at) .moment) (worst4 f n) (z .keyed)))
       (none-passes (λ j. breaks4 f n j && eqb (f j .moment) (worst4 f n)) n h (z .at) (z .below)))
 
-  accepted-from : (P C : ℕ) → n ≤ first1 f n P → n ≤ first2 f n → n ≤ first3 f n → n ≤ first4 f n → n ≤ first5 f n → n ≤ first6 f n C → Accepted f n P C
+  accepted-from : (P C : ℕ) → n ≤ first1 f n P → n ≤ first2 f n → n ≤ first3 f n → n ≤ first4 f n → n ≤ first5 f n → n ≤ first6 f n C
+      → Accepted f n P C
   accepted-from P C h1 h2 h3 h4 h5 h6 = record {
     rule1 = fields-of f n P h1;
     rule2 = order-of f n h2;
@@ -182,7 +188,8 @@ module _ (f : ℕ → Entry) (n : ℕ) where
     rule5 = λ j u t. cause-to (f j) (not-f (hasCause f n (f j))
         (sym (ap (λ (s : Bool). s && not (hasCause f n (f j))) (same-of TopNil (what (f j)) t)) ∙ none-passes (breaks5 f n) n h5 j u));
     rule6 = λ j u t. ltb-false (donePushes f n (f j .queue) (2 * f j .start)) C
-        (sym (ap (λ (s : Bool). s && ltb (donePushes f n (f j .queue) (2 * f j .start)) C) (same-of Full (what (f j)) t)) ∙ none-passes (breaks6 f n C) n h6 j u);
+        (sym (ap (λ (s : Bool). s && ltb (donePushes f n (f j .queue) (2 * f j .start)) C) (same-of Full (what (f j)) t))
+        ∙ none-passes (breaks6 f n C) n h6 j u);
   }
     where
       small : (j : ℕ) → j < n → bears (f j) ≡ true → f j .moment < 65536
@@ -231,7 +238,8 @@ record HeadPassed (bytes : List ℕ) : Type 0 where
   pub rules : rulesOf (entryAt bytes) (entryCountOf bytes) (processesOf bytes) (slotsOf bytes) .number ≡ 0
 
 head-passed : (bytes : List ℕ) → judgeOf bytes .number ≡ 0 → HeadPassed bytes
-head-passed bytes = by (ltb (length bytes) 5) refl (headOf bytes) refl (ltb (length bytes) (5 + 12 * entryCountOf bytes)) refl (ltb (5 + 12 * entryCountOf bytes) (length bytes)) refl
+head-passed bytes = by (ltb (length bytes) 5) refl (headOf bytes) refl (ltb (length bytes) (5 + 12 * entryCountOf bytes)) refl
+    (ltb (5 + 12 * entryCountOf bytes) (length bytes)) refl
   where
     rest : Verdict
     rest = rulesOf (entryAt bytes) (entryCountOf bytes) (processesOf bytes) (slotsOf bytes)
@@ -294,7 +302,8 @@ pub judged-accepted : (bytes : List ℕ) → Bytes bytes → judgeOf bytes .numb
 judged-accepted bytes ok z =
     let p = head-passed bytes z in
     let h = head-facts (sectionCountOf bytes) (processesOf bytes) (slotsOf bytes) (entryCountOf bytes) (p .head) in
-    let back : logBytes (decoded bytes) ≡ bytes = encode-decode bytes ok (record { counted = h .counted; sized = omega (arith, p .enough, p .no-more) }) in
+    let back : logBytes (decoded bytes) ≡ bytes = encode-decode bytes ok
+    (record { counted = h .counted; sized = omega (arith, p .enough, p .no-more) }) in
     record {
       log = decoded bytes;
       in-range = in-range bytes ok (h .P-low) (h .P-high) (h .C-low) (h .C-high) (h .few);
@@ -302,11 +311,16 @@ judged-accepted bytes ok z =
       is = sym back;
     }
   where
-    given : (l : Log) (bytes : List ℕ) → logBytes l ≡ bytes → Accepted (entryAt bytes) (entryCountOf bytes) (processesOf bytes) (slotsOf bytes) → AcceptedLog l
+    given : (l : Log) (bytes : List ℕ) → logBytes l ≡ bytes → Accepted (entryAt bytes) (entryCountOf bytes) (processesOf bytes) (slotsOf bytes)
+        → AcceptedLog l
     given l bytes e a =
         rw (entries-are l, processes-decoded l, slots-decoded l, entry-count-decoded l) at
         (subst (λ (b : List ℕ). Accepted (entryAt b) (entryCountOf b) (processesOf b) (slotsOf b)) (sym e) a)
 
 -- The judge gives 0 exactly for the bytes of an accepted log.
 pub judged-0 : (bytes : List ℕ) → Bytes bytes → (judgeOf bytes .number ≡ 0) ↔ AcceptedBytes bytes
-judged-0 bytes ok = (judged-accepted bytes ok, λ a. ap (λ (b : List ℕ). judgeOf b .number) (a .is) ∙ ap (λ (v : Verdict). v .number) (accepted-judged (a .log) (a .in-range) (a .accepted)))
+judged-0 bytes ok = (
+  judged-accepted bytes ok,
+  λ a. ap (λ (b : List ℕ). judgeOf b .number) (a .is)
+      ∙ ap (λ (v : Verdict). v .number) (accepted-judged (a .log) (a .in-range) (a .accepted)),
+)

@@ -29,7 +29,8 @@ module _ (f : ℕ → Entry) (n q : ℕ) where
       let e : m + suc k ≡ suc (m + k) = omega arith in
       rw e (before-quiet (m + k) (h (m + k) (omega arith) (omega arith)) ∙ before-still m k (λ x a b. h x a (omega arith)))
 
-  pub before-event : (x : ℕ) → eventAt f n q x < n → before f n q (suc x) ≡ applied (what (f (eventAt f n q x))) (f (eventAt f n q x) .node) (before f n q x)
+  pub before-event : (x : ℕ) → eventAt f n q x < n → before f n q (suc x) ≡ applied (what (f (eventAt f n q x))) (f (eventAt f n q x) .node)
+      (before f n q x)
   unfolding before
   before-event x h = rw (lt-ltb (eventAt f n q x) n h)
 

@@ -39,7 +39,8 @@ module _ (P : ℕ) (e : Entry) where
 
   own-from : ((e .kind ≡ push) ⊎ (e .kind ≡ bottomPop) → e .process ≡ e .queue) → onOwnQueue e ≡ true
   own-from h =
-      so-if (eqb (e .kind) push || eqb (e .kind) bottomPop) (eqb (e .process) (e .queue)) (λ t. eq-eqb (e .process) (e .queue) (h (one (eqb (e .kind) push) refl t)))
+      so-if (eqb (e .kind) push || eqb (e .kind) bottomPop) (eqb (e .process) (e .queue))
+      (λ t. eq-eqb (e .process) (e .queue) (h (one (eqb (e .kind) push) refl t)))
     where
       one : (s : Bool) → eqb (e .kind) push ≡ s → (s || eqb (e .kind) bottomPop) ≡ true → (e .kind ≡ push) ⊎ (e .kind ≡ bottomPop)
       one true p t = inl (eqb-true (e .kind) push p)
@@ -89,9 +90,11 @@ module _ (P : ℕ) (e : Entry) where
         kind-to = leb-true (e .kind) topPop (and-1 (leb push (e .kind)) (leb (e .kind) topPop) kind);
         result = leb-true (e .result) full (and-1 to-kind (leb (e .result) full) h4);
         own = own-to (and-1 to-result (onOwnQueue e) h5);
-        full-push = λ r. eqb-true (e .kind) push (if-so (eqb (e .result) full) (eqb (e .kind) push) (and-1 to-own (fullForPush e) h6) (eq-eqb (e .result) full r));
+        full-push = λ r. eqb-true (e .kind) push (if-so (eqb (e .result) full) (eqb (e .kind) push) (and-1 to-own (fullForPush e) h6)
+            (eq-eqb (e .result) full r));
         nil-pop = λ r k. not-e (eqb (e .kind) push)
-            (if-so (eqb (e .result) nil) (not (eqb (e .kind) push)) (and-1 to-full (nilForPop e) h7) (eq-eqb (e .result) nil r)) (eq-eqb (e .kind) push k);
+            (if-so (eqb (e .result) nil) (not (eqb (e .kind) push)) (and-1 to-full (nilForPop e) h7) (eq-eqb (e .result) nil r))
+            (eq-eqb (e .kind) push k);
         node-nil = λ v. eqb-true (e .result) nil (truth-to (eqb (e .node) 0) (eqb (e .result) nil) node (eq-eqb (e .node) 0 v));
         nil-node = λ r. eqb-true (e .node) 0 (truth-from (eqb (e .node) 0) (eqb (e .result) nil) node (eq-eqb (e .result) nil r));
         start = leb-true (e .start) (e .end) (and-1 to-node (leb (e .start) (e .end)) h9);
@@ -106,7 +109,8 @@ module _ (P : ℕ) (e : Entry) where
       (le-leb (e .result) full (r .result)))
       (own-from (r .own)))
       (so-if (eqb (e .result) full) (eqb (e .kind) push) (λ t. eq-eqb (e .kind) push (r .full-push (eqb-true (e .result) full t)))))
-      (so-if (eqb (e .result) nil) (not (eqb (e .kind) push)) (λ t. not-i (eqb (e .kind) push) (λ k. r .nil-pop (eqb-true (e .result) nil t) (eqb-true (e .kind) push k)))))
+      (so-if (eqb (e .result) nil) (not (eqb (e .kind) push)) (λ t. not-i (eqb (e .kind) push)
+      (λ k. r .nil-pop (eqb-true (e .result) nil t) (eqb-true (e .kind) push k)))))
       (same-truth (eqb (e .node) 0) (eqb (e .result) nil)
       (λ t. eq-eqb (e .result) nil (r .node-nil (eqb-true (e .node) 0 t))) (λ t. eq-eqb (e .node) 0 (r .nil-node (eqb-true (e .result) nil t)))))
       (le-leb (e .start) (e .end) (r .start)))
@@ -135,8 +139,11 @@ module _ (P : ℕ) (e : Entry) where
       by false true true a b c = (sym (eqb-true (e .kind) bottomPop b), sym (eqb-true (e .result) done c))
       by false true false a b c = (sym (eqb-true (e .kind) bottomPop b), not-full r (eqb-false (e .kind) push a) (eqb-false (e .result) done c))
       by false false true a b c = (top-kind r (eqb-false (e .kind) push a) (eqb-false (e .kind) bottomPop b), sym (eqb-true (e .result) done c))
-      by false false false a b c =
-          (top-kind r (eqb-false (e .kind) push a) (eqb-false (e .kind) bottomPop b), not-full r (eqb-false (e .kind) push a) (eqb-false (e .result) done c))
+      by false false false a b c = (
+        top-kind r (eqb-false (e .kind) push a) (eqb-false (e .kind) bottomPop b),
+        not-full r (eqb-false (e .kind) push a)
+            (eqb-false (e .result) done c),
+      )
 
 module _ (d e : Entry) where
   pub order : clash d e ≡ false → Rule2 d e
@@ -145,13 +152,15 @@ module _ (d e : Entry) where
       record {
         ends-rise = ltb-true (d .end) (e .end) (and-0 (endsRise d e) (startsAfter d e) g);
         starts-after = λ p. ltb-true (d .end) (e .start)
-            (if-so (eqb (d .process) (e .process)) (ltb (d .end) (e .start)) (and-1 (endsRise d e) (startsAfter d e) g) (eq-eqb (d .process) (e .process) p));
+            (if-so (eqb (d .process) (e .process)) (ltb (d .end) (e .start)) (and-1 (endsRise d e) (startsAfter d e) g)
+            (eq-eqb (d .process) (e .process) p));
       }
 
   pub order-back : Rule2 d e → clash d e ≡ false
   order-back r =
       ap not (and-i (lt-ltb (d .end) (e .end) (r .ends-rise))
-      (so-if (eqb (d .process) (e .process)) (ltb (d .end) (e .start)) (λ p. lt-ltb (d .end) (e .start) (r .starts-after (eqb-true (d .process) (e .process) p)))))
+      (so-if (eqb (d .process) (e .process)) (ltb (d .end) (e .start))
+      (λ p. lt-ltb (d .end) (e .start) (r .starts-after (eqb-true (d .process) (e .process) p)))))
 
 module _ (e : Entry) where
   pub moment : momentRight e ≡ true → Rule3 e

@@ -47,7 +47,8 @@ module _ (f : ℕ → Entry) (n : ℕ) where
 
   pub moments-of : n ≤ first3 f n → (j : ℕ) → j < n → Rule3 (f j)
   moments-of h j u =
-      moment (f j) (not-f (momentRight (f j)) (or-0 (not (momentRight (f j))) (bears (f j) && any (λ i. bearsAt (f j .moment) (f i)) j) (none-passes (breaks3 f) n h j u)))
+      moment (f j) (not-f (momentRight (f j)) (or-0 (not (momentRight (f j))) (bears (f j) && any (λ i. bearsAt (f j .moment) (f i)) j)
+      (none-passes (breaks3 f) n h j u)))
 
   pub distinct : n ≤ first3 f n → Distinct f n
   distinct h i j u v a b e = split (decLt i j) (decLt j i)

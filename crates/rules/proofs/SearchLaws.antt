@@ -142,7 +142,8 @@ pub any-next : (p : ℕ → Bool) (i : ℕ) (t : Bool) → t ≡ any p i → (t 
 any-next p i t e = by-both (t || p i) (any p (i + 1)) to (λ h. from (any-e p (i + 1) h))
   where
     to : (t || p i) ≡ true → any p (i + 1) ≡ true
-    to h = or-e t (p i) h (λ a. let z = any-e p i (sym e ∙ a) in any-i p (i + 1) (z .at) (omega (arith, z .below)) (z .passes)) (λ a. any-i p (i + 1) i (omega arith) a)
+    to h = or-e t (p i) h (λ a. let z = any-e p i (sym e ∙ a) in any-i p (i + 1) (z .at) (omega (arith, z .below)) (z .passes))
+        (λ a. any-i p (i + 1) i (omega arith) a)
 
     from : Found p (i + 1) → (t || p i) ≡ true
     from z = split (ℕ-discrete (z .at) i)

@@ -65,7 +65,8 @@ module _ (l : List ℕ) (m P C n : ℕ) where
   pub head-read : m ≡ sectionCountOf l → P ≡ processesOf l → C ≡ slotsOf l → n ≡ entryCountOf l → headRight m P C n ≡ headOf l
   head-read a b c d = rw (a, b, c, d)
 
-  pub rules-read : P ≡ processesOf l → C ≡ slotsOf l → n ≡ entryCountOf l → rulesOf (entryAt l) n P C ≡ rulesOf (entryAt l) (entryCountOf l) (processesOf l) (slotsOf l)
+  pub rules-read : P ≡ processesOf l → C ≡ slotsOf l → n ≡ entryCountOf l
+      → rulesOf (entryAt l) n P C ≡ rulesOf (entryAt l) (entryCountOf l) (processesOf l) (slotsOf l)
   rules-read b c d = rw (b, c, d)
 
 module _ (l : List ℕ) (r : Verdict) where

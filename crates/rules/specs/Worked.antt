@@ -43,7 +43,8 @@ k1 = call 0 0 Pushed 7 0 2 4 ∷ call 1 0 TopNode 7 3 8 14 ∷ call 0 0 BottomNi
 
 abbrev k4 : Entry → List Entry
 k4 last =
-    call 0 0 Pushed 1 0 2 4 ∷ call 0 0 BottomNode 1 6 11 14 ∷ call 0 0 Pushed 2 12 14 28 ∷ call 0 0 BottomNode 2 15 20 32 ∷ call 0 0 Pushed 3 21 23 46 ∷ last ∷ []
+    call 0 0 Pushed 1 0 2 4 ∷ call 0 0 BottomNode 1 6 11 14 ∷ call 0 0 Pushed 2 12 14 28 ∷ call 0 0 BottomNode 2 15 20 32 ∷ call 0 0 Pushed 3 21 23 46
+    ∷ last ∷ []
 
 -- two nodes pushed, then calls that end in this order
 abbrev after-two : List Entry → List Entry

@@ -39,7 +39,8 @@ long-enough c = c .before .before .before .before .before .if1 .left
 head-is : (c : Read) → c .head-right .result ≡ headOf (log-of c)
 head-is c =
     c .head-right .ensures
-    ∙ head-read (log-of c) (section-at c) (processes-at c) (slots-at c) (count-at c) (c .before .before .before .before .byte-at .ensures) (c .before .before .before .byte-at2 .ensures)
+    ∙ head-read (log-of c) (section-at c) (processes-at c) (slots-at c) (count-at c) (c .before .before .before .before .byte-at .ensures)
+    (c .before .before .before .byte-at2 .ensures)
     (c .before .before .byte-at3 .ensures) (count-is c)
 
 returns : tie.Need-returns
@@ -66,7 +67,8 @@ returns-4 c =
 rules-requires : tie.Need-rules-requires
 rules-requires c κs =
     let k = c .before .before .before in
-    let f = few (section-at k) (processes-at k) (slots-at k) (count-at k) (sym (k .head-right .ensures) ∙ not-false _ (c .before .before .if2 .left)) in
+    let f = few (section-at k) (processes-at k) (slots-at k) (count-at k)
+    (sym (k .head-right .ensures) ∙ not-false _ (c .before .before .if2 .left)) in
     (f .0, f .1, omega (arith, c .before .if3 .left, c .if4 .left))
 
 returns-5 : tie.Need-returns-5
@@ -75,7 +77,8 @@ returns-5 c =
     let s : 5 + 12 * entryCountOf (log-of k) ≤ length (log-of k) = omega (arith, count-is k, c .before .before .if3 .left) in
     let t : length (log-of k) ≤ 5 + 12 * entryCountOf (log-of k) = omega (arith, count-is k, c .before .if4 .left) in
     whole (log-of k) _ (long-enough k) (sym (head-is k) ∙ not-false _ (c .before .before .before .if2 .left)) s t
-    (c .rules .ensures ∙ rules-read (log-of k) (section-at k) (processes-at k) (slots-at k) (count-at k) (k .before .before .before .byte-at2 .ensures) (k .before .before .byte-at3 .ensures) (count-is k))
+    (c .rules .ensures ∙ rules-read (log-of k) (section-at k) (processes-at k) (slots-at k) (count-at k)
+    (k .before .before .before .byte-at2 .ensures) (k .before .before .byte-at3 .ensures) (count-is k))
 
 pub judge-spec : {M : Type 1} → statement M
 judge-spec =

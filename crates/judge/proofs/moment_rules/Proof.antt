@@ -32,7 +32,8 @@ kept4 c = pass _ _ _ (c .before .first-unlawful .ensures) (c .if2 .left)
 kept5 : (c : tie.Else3) → start3 c .args .n ≤ first5 (log-of (start3 c)) (start3 c .args .n)
 kept5 c = pass _ _ _ (c .before .first-uncaused .ensures) (c .if3 .left)
 
-ordered : (c : tie.Else1) → Ordered (log-of (start1 c)) (start1 c .args .n) (c .before .by-moment .last .1 .1 .0) (c .before .by-moment .result .count)
+ordered : (c : tie.Else1) → Ordered (log-of (start1 c)) (start1 c .args .n) (c .before .by-moment .last .1 .1 .0)
+    (c .before .by-moment .result .count)
 ordered c = c .before .by-moment .ensures .1 (c .if1 .left)
 
 returns : tie.Need-returns
@@ -47,7 +48,8 @@ returns-2 : tie.Need-returns-2
 returns-2 c =
     let e3 = c .before .before .before .before in
     let a = start1 e3 .args in
-    says4 (log-of (start1 e3)) (a .n) (a .slots) _ (kept3 e3) _ (c .before .before .first-unlawful .ensures) (c .before .if2 .taken) (c .verdict-of2 .ensures)
+    says4 (log-of (start1 e3)) (a .n) (a .slots) _ (kept3 e3) _ (c .before .before .first-unlawful .ensures) (c .before .if2 .taken)
+    (c .verdict-of2 .ensures)
 
 first-uncaused-requires : tie.Need-first-uncaused-requires
 first-uncaused-requires c κs =
@@ -59,7 +61,8 @@ returns-3 : tie.Need-returns-3
 returns-3 c =
     let e4 = c .before .before .before .before in
     let a = start2 e4 .args in
-    says5 (log-of (start2 e4)) (a .n) (a .slots) _ (kept3 (e4 .before .before .before)) (kept4 e4) _ (c .before .before .first-uncaused .ensures) (c .before .if3 .taken) (c .verdict-of3 .ensures)
+    says5 (log-of (start2 e4)) (a .n) (a .slots) _ (kept3 (e4 .before .before .before)) (kept4 e4) _ (c .before .before .first-uncaused .ensures)
+    (c .before .if3 .taken) (c .verdict-of3 .ensures)
 
 first-unfilled-requires : tie.Need-first-unfilled-requires
 first-unfilled-requires c κs =
@@ -72,14 +75,16 @@ returns-4 c =
     let e5 = c .before .before .before in
     let e4 = e5 .before .before .before in
     let a = start3 e5 .args in
-    says6 (log-of (start3 e5)) (a .n) (a .slots) _ (kept3 (e4 .before .before .before)) (kept4 e4) (kept5 e5) _ (c .before .before .first-unfilled .ensures) (c .before .if4 .taken) (c .verdict-of4 .ensures)
+    says6 (log-of (start3 e5)) (a .n) (a .slots) _ (kept3 (e4 .before .before .before)) (kept4 e4) (kept5 e5) _
+    (c .before .before .first-unfilled .ensures) (c .before .if4 .taken) (c .verdict-of4 .ensures)
 
 returns-5 : tie.Need-returns-5
 returns-5 c =
     let e5 = c .before .before .before in
     let e4 = e5 .before .before .before in
     let a = start3 e5 .args in
-    says0 (log-of (start3 e5)) (a .n) (a .slots) _ (kept3 (e4 .before .before .before)) (kept4 e4) (kept5 e5) (pass _ _ _ (c .before .before .first-unfilled .ensures) (c .before .if4 .left)) (c .verdict-of5 .ensures)
+    says0 (log-of (start3 e5)) (a .n) (a .slots) _ (kept3 (e4 .before .before .before)) (kept4 e4) (kept5 e5)
+    (pass _ _ _ (c .before .before .first-unfilled .ensures) (c .before .if4 .left)) (c .verdict-of5 .ensures)
 
 pub moment-rules-spec : {M : Type 1} → statement M
 moment-rules-spec =

@@ -35,7 +35,8 @@ first-wrong-requires c κs = (c .before .pre .0, c .before .pre .2)
 returns : tie.Need-returns
 returns c =
     let a = c .before .before .before .before .args in
-    says1 (entryAt (a .log .now)) (a .n) (a .p) (a .slots) _ _ (c .before .before .first-wrong .ensures) (c .before .if1 .taken) (c .verdict-of .ensures)
+    says1 (entryAt (a .log .now)) (a .n) (a .p) (a .slots) _ _ (c .before .before .first-wrong .ensures) (c .before .if1 .taken)
+    (c .verdict-of .ensures)
 
 first-clash-requires : tie.Need-first-clash-requires
 first-clash-requires c κs = (fields1 c, start1 c .pre .0, start1 c .pre .2)
@@ -44,7 +45,8 @@ returns-2 : tie.Need-returns-2
 returns-2 c =
     let e1 = c .before .before .before in
     let a = start1 e1 .args in
-    says2 (log-of (start1 e1)) (a .n) (a .p) (a .slots) _ (kept1 e1) _ (c .before .before .first-clash .ensures) (c .before .if2 .taken) (c .verdict-of2 .ensures)
+    says2 (log-of (start1 e1)) (a .n) (a .p) (a .slots) _ (kept1 e1) _ (c .before .before .first-clash .ensures) (c .before .if2 .taken)
+    (c .verdict-of2 .ensures)
 
 moment-rules-requires : tie.Need-moment-rules-requires
 moment-rules-requires c κs =

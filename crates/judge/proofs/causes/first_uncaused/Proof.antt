@@ -1,4 +1,5 @@
--- `judge::causes::first_uncaused` meets its contract. The loop keeps `Shelves`: what is known of each queue after the first k moments, which lie before the ends of the entries that are left.
+-- `judge::causes::first_uncaused` meets its contract. The loop keeps `Shelves`: what is known of each queue after the first k moments, which lie
+-- before the ends of the entries that are left.
 use mathlib.Core.Path.{_≡_, ap, sym, _∙_}
 use mathlib.Core.Bool.{Bool, true, cond, _&&_}
 use mathlib.Core.List.{List}
@@ -23,7 +24,9 @@ use Rattle.judge.proofs.causes.first_uncaused.Statement.{statement}
 use Rattle.judge.proofs.causes.first_uncaused.Tie as tie
 
 abbrev Inv-loop : tie.InvT-loop
-Inv-loop log n keys count held₀ filled₀ took₀ k₀ j₀ held filled took k j = (j ≤ n) × (k ≤ count) × (first (breaks5 (entryAt log) n) j (n - j) ≡ first (breaks5 (entryAt log) n) 0 n) × Shelves (entryAt log) n keys k held filled took × ((x : ℕ) → j ≤ x → x < n → instant keys k ≤ 2 * entryAt log x .end + 2)
+Inv-loop log n keys count held₀ filled₀ took₀ k₀ j₀ held filled took k j = (j ≤ n) × (k ≤ count)
+    × (first (breaks5 (entryAt log) n) j (n - j) ≡ first (breaks5 (entryAt log) n) 0 n) × Shelves (entryAt log) n keys k held filled took
+    × ((x : ℕ) → j ≤ x → x < n → instant keys k ≤ 2 * entryAt log x .end + 2)
 
 abbrev μ-loop : tie.MeasureT-loop
 μ-loop log n keys count held₀ filled₀ took₀ k₀ j₀ held filled took k j = (n - j) + (count - k)
@@ -65,13 +68,15 @@ Due = tie.Then2 Inv-loop μ-loop
 abbrev due-read : Due → Read
 due-read c = c .before .before .before .before
 
-due-is : (c : Due) → (ltb (loop-at (due-read c) .loop .k) (start (due-read c) .args .count) && leb (momentAt (keys-of (due-read c)) (loop-at (due-read c) .loop .k)) (2 * got (due-read c) .end + 1)) ≡ true
+due-is : (c : Due) → (ltb (loop-at (due-read c) .loop .k) (start (due-read c) .args .count) && leb
+    (momentAt (keys-of (due-read c)) (loop-at (due-read c) .loop .k)) (2 * got (due-read c) .end + 1)) ≡ true
 due-is c = sym (c .before .due .ensures) ∙ c .if2 .taken
 
 due-below : (c : Due) → loop-at (due-read c) .loop .k < start (due-read c) .args .count
 due-below c =
     let r = due-read c in
-    ltb-true (loop-at r .loop .k) (start r .args .count) (and-0 (ltb (loop-at r .loop .k) (start r .args .count)) (leb (momentAt (keys-of r) (loop-at r .loop .k)) (2 * got r .end + 1)) (due-is c))
+    ltb-true (loop-at r .loop .k) (start r .args .count) (and-0 (ltb (loop-at r .loop .k) (start r .args .count))
+    (leb (momentAt (keys-of r) (loop-at r .loop .k)) (2 * got r .end + 1)) (due-is c))
 
 due-upto : (c : Due) → momentAt (keys-of (due-read c)) (loop-at (due-read c) .loop .k) ≤ 2 * got (due-read c) .end + 1
 due-upto c =
@@ -95,13 +100,15 @@ call c = c .before .before .before .entry2 .result
 call-is : (c : Fed) → call c ≡ fun (due-read (fed-due c)) (indexAt (keys-of (due-read (fed-due c))) (loop-at (due-read (fed-due c)) .loop .k))
 call-is c = c .before .before .before .entry2 .ensures
 
-call-low : (c : Fed) → (call c .queue < 8) × (call c .process < 8) × (getD (loop-at (due-read (fed-due c)) .loop .held) (call c .queue) 0 ≤ loop-at (due-read (fed-due c)) .loop .k)
+call-low : (c : Fed) → (call c .queue < 8) × (call c .process < 8) × (getD (loop-at (due-read (fed-due c)) .loop .held) (call c .queue) 0 ≤ loop-at
+    (due-read (fed-due c)) .loop .k)
 call-low c =
     let d = fed-due c in
     let r = due-read d in
     let a = start r .args in
     let l = loop-at r .loop in
-    let t = told (fun r) (a .n) (keys-of r) (a .count) (start r .pre .0 .ordered) (l .k) (due-below d) (l .held) (l .filled) (l .took) (l .inv .3) (start r .pre .0 .fields) (call c) (call-is c) in
+    let t = told (fun r) (a .n) (keys-of r) (a .count) (start r .pre .0 .ordered) (l .k) (due-below d) (l .held) (l .filled) (l .took) (l .inv .3)
+    (start r .pre .0 .fields) (call c) (call-is c) in
     (t .queue, t .process, t .few)
 
 -- where its cause has been looked for
@@ -121,16 +128,27 @@ broken c =
     let a = start r .args in
     let l = loop-at r .loop in
     c .uncaused .ensures
-    ∙ query-told (fun r) (a .n) (keys-of r) (a .count) (start r .pre .0) (l .k) (l .inv .1) (l .held) (l .filled) (l .took) (l .inv .3) (l .j) (below r) (l .inv .4) (got r) (is r)
+    ∙ query-told (fun r) (a .n) (keys-of r) (a .count) (start r .pre .0) (l .k) (l .inv .1) (l .held) (l .filled) (l .took) (l .inv .3) (l .j)
+    (below r) (l .inv .4) (got r) (is r)
     (sym (d .due .ensures) ∙ c .before .before .before .before .if2 .left) (sym (r .top-nil .ensures) ∙ not-false _ (d .before .before .if1 .left))
 
 loop-holds : tie.Need-loop-holds Inv-loop μ-loop
 loop-holds c =
-    let a = c .before .args in
-    (search needs, search needs, first-start (breaks5 (entryAt (a .log .now)) (a .n)) (a .n), shelves-start (entryAt (a .log .now)) (a .n) (a .keys .now), λ x u v. omega arith)
+    let a = c .before .args in (
+      search needs,
+      search needs,
+      first-start (breaks5 (entryAt (a .log .now)) (a .n)) (a .n),
+      shelves-start (entryAt (a .log .now)) (a .n)
+          (a .keys .now),
+      λ x u v. omega arith,
+    )
 
 entry-requires : tie.Need-entry-requires Inv-loop μ-loop
-entry-requires c κs = (omega (arith, c .loop-test .taken, c .before .before .before .pre .0 .small), omega (arith, c .loop-test .taken, c .before .before .before .pre .1))
+entry-requires c κs = (
+  omega (arith, c .loop-test .taken, c .before .before .before .pre .0 .small),
+  omega
+      (arith, c .loop-test .taken, c .before .before .before .pre .1),
+)
 
 add-j : tie.Need-add-j Inv-loop μ-loop
 add-j c = omega (arith, below (c .before), start (c .before) .pre .0 .small)
@@ -145,7 +163,8 @@ loop-again c =
     let l = loop-at r .loop in (
       omega (arith, below r),
       l .inv .1,
-      first-next (breaks5 (fun r) (a .n)) (l .j) (a .n) (below r) (skip-told (fun r) (a .n) (keys-of r) (a .count) (start r .pre .0) (l .j) (got r) (is r) (sym (r .top-nil .ensures) ∙ not-true _ (c .if1 .taken))) ∙ l .inv .2,
+      first-next (breaks5 (fun r) (a .n)) (l .j) (a .n) (below r) (skip-told (fun r) (a .n) (keys-of r) (a .count) (start r .pre .0) (l .j) (got r)
+          (is r) (sym (r .top-nil .ensures) ∙ not-true _ (c .if1 .taken))) ∙ l .inv .2,
       l .inv .3,
       λ x u v. l .inv .4 x (omega arith) v,
     )
@@ -203,10 +222,20 @@ array-write-filled : tie.Need-array-write-filled Inv-loop μ-loop
 array-write-filled c = call-low (c .before .before .before .before) .0
 
 mul-took : tie.Need-mul-took Inv-loop μ-loop
-mul-took c = omega (arith, call-low (c .before .before .before .before .before .before) .0, call-low (c .before .before .before .before .before .before) .1)
+mul-took c = omega (
+  arith,
+  call-low (c .before .before .before .before .before .before) .0,
+  call-low
+      (c .before .before .before .before .before .before) .1,
+)
 
 array-write-took : tie.Need-array-write-took Inv-loop μ-loop
-array-write-took c = omega (arith, call-low (c .before .before .before .before .before .before) .0, call-low (c .before .before .before .before .before .before) .1)
+array-write-took c = omega (
+  arith,
+  call-low (c .before .before .before .before .before .before) .0,
+  call-low
+      (c .before .before .before .before .before .before) .1,
+)
 
 add-k : tie.Need-add-k Inv-loop μ-loop
 add-k c = omega (arith, due-low (fed-due (c .before .before .before .before .before .before)))
@@ -225,10 +254,14 @@ loop-again-2 c =
       l .inv .0,
       omega (arith, due-below d),
       l .inv .2,
-      shelves-told (fun r) (a .n) (keys-of r) (a .count) (start r .pre .0 .ordered) (l .k) (due-below d) (l .held) (l .filled) (l .took) (l .inv .3) (start r .pre .0 .fields) e (call-is k) _ _ _
-          (c .before .before .before .before .held-after .ensures ∙ ap (λ (w : What). heldAfter w (getD (l .held) (e .queue) 0)) (c .before .before .before .before .before .what .ensures))
-          (c .before .before .choose .ensures ∙ ap (λ (t : Bool). cond (t && eqb (getD (l .held) (e .queue) 0) 0) (e .moment) (getD (l .filled) (e .queue) 0)) (c .before .before .before .pushed .ensures))
-          (c .choose2 .ensures ∙ ap (λ (t : Bool). cond t (e .moment + 1) (getD (l .took) (8 * e .queue + e .process) 0)) (c .before .took-top .ensures)),
+      shelves-told (fun r) (a .n) (keys-of r) (a .count) (start r .pre .0 .ordered) (l .k) (due-below d) (l .held) (l .filled) (l .took) (l .inv .3)
+          (start r .pre .0 .fields) e (call-is k) _ _ _
+          (c .before .before .before .before .held-after .ensures
+          ∙ ap (λ (w : What). heldAfter w (getD (l .held) (e .queue) 0)) (c .before .before .before .before .before .what .ensures))
+          (c .before .before .choose .ensures ∙ ap (λ (t : Bool). cond (t && eqb (getD (l .held) (e .queue) 0) 0) (e .moment)
+          (getD (l .filled) (e .queue) 0)) (c .before .before .before .pushed .ensures))
+          (c .choose2 .ensures ∙ ap (λ (t : Bool). cond t (e .moment + 1) (getD (l .took) (8 * e .queue + e .process) 0))
+          (c .before .took-top .ensures)),
       passed-next (fun r) (a .n) (keys-of r) (a .count) (start r .pre .0) (got r) (l .k) (l .j) (is r) (below r) (due-upto d),
     )
 

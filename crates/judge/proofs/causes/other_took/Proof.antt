@@ -29,7 +29,8 @@ returns : tie.Need-returns Inv-loop μ-loop
 returns c =
     let a = c .before .before .args in
     let l = c .before .loop in
-    at-end (any (λ x. not (eqb x (a .process)) && ltb (a .from) (getD (a .took .now) (8 * a .q + x) 0))) (l .p) 8 (l .hit) (l .inv .0) (c .loop-test .left) (l .inv .1)
+    at-end (any (λ x. not (eqb x (a .process)) && ltb (a .from) (getD (a .took .now) (8 * a .q + x) 0))) (l .p) 8 (l .hit) (l .inv .0)
+    (c .loop-test .left) (l .inv .1)
 
 pub other-took-spec : {M : Type 1} → statement M
 other-took-spec =

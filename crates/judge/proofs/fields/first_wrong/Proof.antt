@@ -21,7 +21,11 @@ loop-holds : tie.Need-loop-holds Inv-loop μ-loop
 loop-holds c = let a = c .before .args in (search needs, first-start (breaks1 (entryAt (a .log .now)) (a .p)) (a .n))
 
 entry-requires : tie.Need-entry-requires Inv-loop μ-loop
-entry-requires c κs = (omega (arith, c .loop-test .taken, c .before .before .before .pre .0), omega (arith, c .loop-test .taken, c .before .before .before .pre .1))
+entry-requires c κs = (
+  omega (arith, c .loop-test .taken, c .before .before .before .pre .0),
+  omega
+      (arith, c .loop-test .taken, c .before .before .before .pre .1),
+)
 
 returns : tie.Need-returns Inv-loop μ-loop
 returns c =
