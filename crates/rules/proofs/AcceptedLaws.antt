@@ -20,7 +20,8 @@ use Rattle.log.specs.EncodeLaws.{entry-decoded, processes-decoded, slots-decode
 use Rattle.rules.specs.declared.Verdict.{Verdict}
 use Rattle.rules.specs.Search.{any}
 use Rattle.rules.specs.Contents.{bears, on, before}
-use Rattle.rules.specs.Rules.{clash, bearsAt, isEmpty, topIs, bottomIs, addedBefore, fresh, lawful, lawfulAt, inCall, emptyWithin, takesTopmost, removes, hasCause, donePushes, breaks1, breaks2, breaks3, breaks4, breaks5, breaks6}
+use Rattle.rules.specs.Rules.{clash, bearsAt, isEmpty, topIs, bottomIs, addedBefore, fresh, lawful, lawfulAt, inCall}
+use Rattle.rules.specs.Rules.{emptyWithin, takesTopmost, removes, hasCause, donePushes, breaks1, breaks2, breaks3, breaks4, breaks5, breaks6}
 use Rattle.rules.specs.Judge.{says, first1, first2, first3, first4, first5, first6, worst4, orElse, rulesOf, headRight, judgeOf}
 use Rattle.rules.specs.Accepted.{TopIs, BottomIs, Rule4, EmptyIn, RemovedIn, Accepted, entryOf, AcceptedLog, AcceptedBytes}
 use Rattle.base.proofs.Bools.{contra, not-so, and-i, and-0, and-1, or-l, or-r, or-e, guarded, not-i, not-e, not-f}
