@@ -64,13 +64,15 @@ pub(crate) fn full(e: Entry) -> bool
 pub(crate) fn took_top(e: Entry) -> bool
     ensures { λ r. ⌜ r ≡ same What.TopNode (whatIs e) ⌝ }
 {
-    !(e.kind == log::PUSH) & !(e.kind == log::BOTTOM_POP) & (e.result == log::DONE)
+    let kind = e.kind;
+    !(kind == log::PUSH) & !(kind == log::BOTTOM_POP) & (e.result == log::DONE)
 }
 
 pub(crate) fn top_nil(e: Entry) -> bool
     ensures { λ r. ⌜ r ≡ same What.TopNil (whatIs e) ⌝ }
 {
-    !(e.kind == log::PUSH) & !(e.kind == log::BOTTOM_POP) & !(e.result == log::DONE)
+    let kind = e.kind;
+    !(kind == log::PUSH) & !(kind == log::BOTTOM_POP) & !(e.result == log::DONE)
 }
 
 // One of two numbers, by what was told of an entry.
