@@ -19,20 +19,24 @@ const LAST_END: u16 = 32766;
 fn keeps_fields(p: u8, e: Entry) -> bool
     ensures { λ r. ⌜ r ≡ keeps1 p e ⌝ }
 {
+    let process = e.process;
+    let queue = e.queue;
     let kind = e.kind;
     let result = e.result;
+    let start = e.start;
+    let end = e.end;
     let push = kind == log::PUSH;
     let nil = result == log::NIL;
-    (e.process < p)
-        & (e.queue < p)
+    (process < p)
+        & (queue < p)
         & ((log::PUSH <= kind) & (kind <= log::TOP_POP))
         & (result <= log::FULL)
-        & (!(push | (kind == log::BOTTOM_POP)) | (e.process == e.queue))
+        & (!(push | (kind == log::BOTTOM_POP)) | (process == queue))
         & (!(result == log::FULL) | push)
         & (!nil | !push)
         & ((e.node == 0) == nil)
-        & (e.start <= e.end)
-        & (e.end <= LAST_END)
+        & (start <= end)
+        & (end <= LAST_END)
 }
 
 // What the entry says the call did.
@@ -64,15 +68,13 @@ pub(crate) fn full(e: Entry) -> bool
 pub(crate) fn took_top(e: Entry) -> bool
     ensures { λ r. ⌜ r ≡ same What.TopNode (whatIs e) ⌝ }
 {
-    let kind = e.kind;
-    !(kind == log::PUSH) & !(kind == log::BOTTOM_POP) & (e.result == log::DONE)
+    !(e.kind == log::PUSH) & !(e.kind == log::BOTTOM_POP) & (e.result == log::DONE)
 }
 
 pub(crate) fn top_nil(e: Entry) -> bool
     ensures { λ r. ⌜ r ≡ same What.TopNil (whatIs e) ⌝ }
 {
-    let kind = e.kind;
-    !(kind == log::PUSH) & !(kind == log::BOTTOM_POP) & !(e.result == log::DONE)
+    !(e.kind == log::PUSH) & !(e.kind == log::BOTTOM_POP) & !(e.result == log::DONE)
 }
 
 // One of two numbers, by what was told of an entry.

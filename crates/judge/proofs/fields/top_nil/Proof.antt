@@ -4,7 +4,7 @@ use Rattle.judge.proofs.fields.top_nil.Statement.{statement}
 use Rattle.judge.proofs.fields.top_nil.Tie as tie
 
 returns : tie.Need-returns
-returns c = top-nil-is (c .before .args .e .kind) (c .before .args .e .result)
+returns c = top-nil-is (c .before .before .before .args .e .kind) (c .before .before .before .args .e .result)
 
 pub top-nil-spec : {M : Type 1} → statement M
 top-nil-spec = tie.close (tie.spec returns)
