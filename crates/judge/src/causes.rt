@@ -1,14 +1,15 @@
 // Rule 5: one pass in file order over the NIL top pops, whose ends rise; the calls up to each one's end are gone through by rising moments.
 ghost use mathlib.Core.Path.{_≡_};
-ghost use mathlib.Core.Bool.{cond, _&&_, not};
+ghost use mathlib.Core.Bool.{_&&_, not};
 ghost use Prim.Native.Nat.{_+_, _*_, _^_, _≤_, _<_};
 ghost use lib.Dec.{eqb, ltb, leb};
 ghost use lib.ListN.{getD};
 ghost use Rattle.log.specs.Decode.{entryAt};
-ghost use Rattle.judge.specs.Search.{any};
-ghost use Rattle.judge.specs.Judge.{first5};
-ghost use Rattle.judge.specs.Order.{momentAt, Whole};
-ghost use Rattle.judge.specs.Causes.{heldAfter, uncausedBy, Clean};
+ghost use Rattle.rules.specs.Search.{any};
+ghost use Rattle.rules.specs.Judge.{first5};
+ghost use Rattle.judge.specs.inner.Order.{momentAt, Whole};
+ghost use Rattle.judge.specs.inner.Causes.{heldAfter, uncausedBy, Clean};
+use crate::fields::choose;
 use crate::fields::pushed;
 use crate::fields::took_top;
 use crate::fields::top_nil;
@@ -24,28 +25,14 @@ fn held_after(did: What, held: usize) -> usize
 {
     match did {
         What::Pushed => held + 1,
-        What::Full => held,
-        What::BottomNode => {
+        What::BottomNode | What::TopNode => {
             if held == 0 {
                 return 0;
             }
             held - 1
         }
-        What::BottomNil => held,
-        What::TopNode => {
-            if held == 0 {
-                return 0;
-            }
-            held - 1
-        }
-        What::TopNil => held,
+        What::Full | What::BottomNil | What::TopNil => held,
     }
-}
-
-fn choose(h: bool, a: usize, b: usize) -> usize
-    ensures { λ r. ⌜ r ≡ cond h a b ⌝ }
-{
-    if h { a } else { b }
 }
 
 // Whether there is a next key, with a moment up to this one.
@@ -90,7 +77,8 @@ fn uncaused(held: &[usize; 8], filled: &[usize; 8], took: &[usize; 64], nil: Ent
     (0 < h) & (f <= from) & !other
 }
 
-// The first entry that breaks rule 5, or n. Of each queue: how many nodes it holds, the moment at which it was filled, and for each process the moment after its last take.
+// The first entry that breaks rule 5, or n. Of each queue: how many nodes it holds, the moment at which it was filled, and for each process the
+// moment after its last take.
 pub(crate) fn first_uncaused(log: &[u8], n: usize, keys: &[usize; 256], count: usize) -> usize
     requires { ⌜ Clean (entryAt (now log)) n (now keys) count × Whole (now log) n ⌝ }
     ensures { λ r. ⌜ r ≡ first5 (entryAt (now (log .entry))) n ⌝ }

@@ -2,8 +2,8 @@
 ghost use mathlib.Core.Path.{_≡_};
 ghost use Prim.Native.Nat.{_≤_};
 ghost use Rattle.log.specs.Decode.{entryAt};
-ghost use Rattle.judge.specs.Judge.{first2};
-ghost use Rattle.judge.specs.Order.{Fields, Whole};
+ghost use Rattle.rules.specs.Judge.{first2};
+ghost use Rattle.judge.specs.inner.Order.{Fields, Whole};
 use crate::read::entry;
 
 // The first entry that breaks rule 2, or n. An end is kept as the next step, so that 0 is none.

@@ -1,12 +1,13 @@
 // Rule 1, and what an entry says of its call by its kind and result alone.
 ghost use mathlib.Core.Path.{_≡_};
+ghost use mathlib.Core.Bool.{cond};
 ghost use Prim.Native.Nat.{_≤_};
 ghost use Rattle.log.specs.Numbers.{what as whatIs, same};
 ghost use Rattle.log.specs.Decode.{entryAt};
-ghost use Rattle.judge.specs.Contents.{bears as bearsIs};
-ghost use Rattle.judge.specs.Rules.{keeps1};
-ghost use Rattle.judge.specs.Judge.{first1};
-ghost use Rattle.judge.specs.Order.{Whole};
+ghost use Rattle.rules.specs.Contents.{bears as bearsIs};
+ghost use Rattle.rules.specs.Rules.{keeps1};
+ghost use Rattle.rules.specs.Judge.{first1};
+ghost use Rattle.judge.specs.inner.Order.{Whole};
 use crate::read::entry;
 use log::Entry;
 use log::What;
@@ -18,16 +19,24 @@ const LAST_END: u16 = 32766;
 fn keeps_fields(p: u8, e: Entry) -> bool
     ensures { λ r. ⌜ r ≡ keeps1 p e ⌝ }
 {
-    (e.process < p)
-        & (e.queue < p)
-        & ((log::PUSH <= e.kind) & (e.kind <= log::TOP_POP))
-        & (e.result <= log::FULL)
-        & (!((e.kind == log::PUSH) | (e.kind == log::BOTTOM_POP)) | (e.process == e.queue))
-        & (!(e.result == log::FULL) | (e.kind == log::PUSH))
-        & (!(e.result == log::NIL) | !(e.kind == log::PUSH))
-        & ((e.node == 0) == (e.result == log::NIL))
-        & (e.start <= e.end)
-        & (e.end <= LAST_END)
+    let process = e.process;
+    let queue = e.queue;
+    let kind = e.kind;
+    let result = e.result;
+    let start = e.start;
+    let end = e.end;
+    let push = kind == log::PUSH;
+    let nil = result == log::NIL;
+    (process < p)
+        & (queue < p)
+        & ((log::PUSH <= kind) & (kind <= log::TOP_POP))
+        & (result <= log::FULL)
+        & (!(push | (kind == log::BOTTOM_POP)) | (process == queue))
+        & (!(result == log::FULL) | push)
+        & (!nil | !push)
+        & ((e.node == 0) == nil)
+        & (start <= end)
+        & (end <= LAST_END)
 }
 
 // What the entry says the call did.
@@ -66,6 +75,13 @@ pub(crate) fn top_nil(e: Entry) -> bool
     ensures { λ r. ⌜ r ≡ same What.TopNil (whatIs e) ⌝ }
 {
     !(e.kind == log::PUSH) & !(e.kind == log::BOTTOM_POP) & !(e.result == log::DONE)
+}
+
+// One of two numbers, by what was told of an entry.
+pub(crate) fn choose(h: bool, a: usize, b: usize) -> usize
+    ensures { λ r. ⌜ r ≡ cond h a b ⌝ }
+{
+    if h { a } else { b }
 }
 
 // The first entry that breaks rule 1, or n.

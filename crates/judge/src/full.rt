@@ -1,14 +1,15 @@
-// Rule 6: one pass in file order. A queue's pushes are its owner's, one after the other, so those before a FULL in the file are those with moments before its start.
+// Rule 6: one pass in file order. A queue's pushes are its owner's, one after the other, so those before a FULL in the file are those with moments
+// before its start.
 ghost use mathlib.Core.Path.{_≡_};
 ghost use Prim.Native.Nat.{_≤_};
 ghost use Rattle.log.specs.Decode.{entryAt};
-ghost use Rattle.judge.specs.Judge.{first6};
-ghost use Rattle.judge.specs.Order.{Whole};
-ghost use Rattle.judge.specs.Fulls.{Timed};
+ghost use Rattle.rules.specs.Judge.{first6};
+ghost use Rattle.judge.specs.inner.Order.{Whole};
+ghost use Rattle.judge.specs.inner.Fulls.{Timed};
+use crate::fields::choose;
 use crate::fields::full;
 use crate::fields::pushed;
 use crate::read::entry;
-use crate::replay::more;
 
 // The first entry that breaks rule 6, or n.
 pub(crate) fn first_unfilled(log: &[u8], n: usize, slots: u8) -> usize
@@ -26,7 +27,7 @@ pub(crate) fn first_unfilled(log: &[u8], n: usize, slots: u8) -> usize
             return j;
         }
         let push = pushed(e);
-        let next = more(push, k);
+        let next = choose(push, k + 1, k);
         pushes[q] = next;
         j = j + 1;
     }

@@ -2,8 +2,8 @@
 ghost use mathlib.Core.Path.{_≡_};
 ghost use Prim.Native.Nat.{_≤_, _<_};
 ghost use Rattle.log.specs.Decode.{entryAt};
-ghost use Rattle.judge.specs.Order.{Whole};
-ghost use Rattle.judge.specs.Judge.{says, rulesOf, judgeOf};
+ghost use Rattle.judge.specs.inner.Order.{Fields, EndsKept, Whole};
+ghost use Rattle.rules.specs.Judge.{says, momentRulesOf, rulesOf, headRight, judgeOf};
 
 mod read; // an entry
 mod fields; // rule 1
@@ -13,11 +13,7 @@ mod replay; // rule 4
 mod causes; // rule 5
 mod full; // rule 6
 
-// The number given back, and the entry at fault, from 0.
-pub struct Verdict {
-    pub number: u8,
-    pub entry: u16,
-}
+pub use rules::Verdict;
 
 fn verdict_of(number: u8, j: usize) -> Verdict
     requires { ⌜ j < 65536 ⌝ }
@@ -29,7 +25,7 @@ fn verdict_of(number: u8, j: usize) -> Verdict
     }
 }
 
-// The rules in order, each over the whole log.
+// The rules in order, each over the whole log: 1 and 2, then the others.
 fn rules(log: &[u8], n: usize, p: u8, slots: u8) -> Verdict
     requires { ⌜ (n ≤ 256) × (p ≤ 8) × Whole (now log) n ⌝ }
     ensures { λ r. ⌜ r ≡ rulesOf (entryAt (now (log .entry))) n p slots ⌝ }
@@ -42,6 +38,14 @@ fn rules(log: &[u8], n: usize, p: u8, slots: u8) -> Verdict
     if j2 < n {
         return verdict_of(15, j2);
     }
+    moment_rules(log, n, slots)
+}
+
+// Rules 3 to 6, which speak of moments.
+fn moment_rules(log: &[u8], n: usize, slots: u8) -> Verdict
+    requires { ⌜ (n ≤ 256) × Fields (entryAt (now log)) n × EndsKept (entryAt (now log)) n × Whole (now log) n ⌝ }
+    ensures { λ r. ⌜ r ≡ momentRulesOf (entryAt (now (log .entry))) n slots ⌝ }
+{
     let mut keys: [usize; 256] = [0; 256];
     let sorted = order::by_moment(log, n, &mut keys);
     let j3 = sorted.bad;
@@ -64,6 +68,13 @@ fn rules(log: &[u8], n: usize, p: u8, slots: u8) -> Verdict
     verdict_of(0, 0)
 }
 
+// Section 1's count, P and C are right, and there are not too many entries.
+fn head_right(count: u8, p: u8, slots: u8, n: usize) -> bool
+    ensures { λ r. ⌜ r ≡ headRight count p slots n ⌝ }
+{
+    (count == log::SECTION_COUNT) & (1 <= p) & (p <= 8) & (1 <= slots) & (slots <= 64) & (n <= 256)
+}
+
 // The judge, of any bytes.
 pub fn judge(log: &[u8]) -> Verdict
     ensures { λ r. ⌜ r ≡ judgeOf (now (log .entry)) ⌝ }
@@ -71,16 +82,11 @@ pub fn judge(log: &[u8]) -> Verdict
     if log.len() < 5 {
         return verdict_of(11, 0);
     }
-    let count = log::byte_at(log, 0);
-    let p = log::byte_at(log, 1);
-    let slots = log::byte_at(log, 2);
-    let n = log::number_at(log, 3) as usize;
-    let right = (count == log::SECTION_COUNT)
-        & (1 <= p)
-        & (p <= 8)
-        & (1 <= slots)
-        & (slots <= 64)
-        & (n <= 256);
+    let count = base::byte_at(log, 0);
+    let p = base::byte_at(log, 1);
+    let slots = base::byte_at(log, 2);
+    let n = base::number_at(log, 3) as usize;
+    let right = head_right(count, p, slots, n);
     if !right {
         return verdict_of(12, 0);
     }

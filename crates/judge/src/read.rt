@@ -2,14 +2,17 @@
 ghost use mathlib.Core.Path.{_≡_};
 ghost use Prim.Native.Nat.{_+_, _*_, _^_, _<_, _≤_};
 ghost use lib.ListN.{length};
+ghost use Rattle.base.specs.Bytes.{numberAt};
 ghost use Rattle.log.specs.Decode.{firstEntry, entryAt};
 use log::Entry;
 
-// The number of two bytes, high byte first.
-fn joined(high: u8, low: u8) -> u16
-    ensures { λ r. ⌜ r ≡ 256 * high + low ⌝ }
+// The number of two bytes at a place within.
+fn number(bytes: &[u8], at: usize) -> u16
+    requires { ⌜ at + 1 < length (now bytes) ⌝ }
+    ensures { λ r. ⌜ r ≡ numberAt (now (bytes .entry)) at ⌝ }
 {
-    256 * (high as u16) + (low as u16)
+    let next = at + 1;
+    base::joined(bytes[at], bytes[next])
 }
 
 // The entry whose twelve bytes stand in front.
@@ -22,10 +25,10 @@ fn first(bytes: &[u8]) -> Entry
         queue: bytes[1],
         kind: bytes[2],
         result: bytes[3],
-        node: joined(bytes[4], bytes[5]),
-        start: joined(bytes[6], bytes[7]),
-        end: joined(bytes[8], bytes[9]),
-        moment: joined(bytes[10], bytes[11]),
+        node: number(bytes, 4),
+        start: number(bytes, 6),
+        end: number(bytes, 8),
+        moment: number(bytes, 10),
     }
 }
 

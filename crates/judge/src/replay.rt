@@ -1,16 +1,16 @@
 // Rule 4: all queues at once, by rising moments. Queue q's nodes lie from lo[q], the top, up to hi[q], in the q-th row of 256.
 ghost use mathlib.Core.Path.{_≡_};
-ghost use mathlib.Core.Bool.{cond};
 ghost use Prim.Native.Nat.{_+_, _^_, _≤_, _<_};
 ghost use lib.Dec.{eqb};
 ghost use lib.ListN.{getD, length};
 ghost use lib.Seq.{slice};
 ghost use Rattle.log.specs.Decode.{entryAt};
-ghost use Rattle.judge.specs.Search.{any};
-ghost use Rattle.judge.specs.Rules.{lawful as lawfulIs};
-ghost use Rattle.judge.specs.Judge.{first4};
-ghost use Rattle.judge.specs.Order.{Fields, Ordered, Whole};
-ghost use Rattle.judge.specs.Replay.{loAfter, hiAfter};
+ghost use Rattle.rules.specs.Search.{any};
+ghost use Rattle.rules.specs.Rules.{lawful as lawfulIs};
+ghost use Rattle.rules.specs.Judge.{first4};
+ghost use Rattle.judge.specs.inner.Order.{Fields, Ordered, Whole};
+ghost use Rattle.judge.specs.inner.Replay.{loAfter, hiAfter};
+use crate::fields::choose;
 use crate::fields::pushed;
 use crate::fields::what;
 use crate::read::entry;
@@ -44,7 +44,6 @@ fn lawful(nodes: &[u16], lo: usize, hi: usize, did: What, node: u16, fresh: bool
 {
     match did {
         What::Pushed => fresh,
-        What::Full => true,
         What::BottomNode => {
             if hi <= lo {
                 return false;
@@ -61,7 +60,7 @@ fn lawful(nodes: &[u16], lo: usize, hi: usize, did: What, node: u16, fresh: bool
             let top = nodes[lo];
             top == node
         }
-        What::TopNil => true,
+        What::Full | What::TopNil => true,
     }
 }
 
@@ -75,7 +74,6 @@ fn moved(lo: usize, hi: usize, did: What) -> Ends
             let above = hi + 1;
             Ends { lo: lo, hi: above }
         }
-        What::Full => Ends { lo: lo, hi: hi },
         What::BottomNode => {
             if hi <= lo {
                 return Ends { lo: lo, hi: hi };
@@ -83,7 +81,6 @@ fn moved(lo: usize, hi: usize, did: What) -> Ends
             let below = hi - 1;
             Ends { lo: lo, hi: below }
         }
-        What::BottomNil => Ends { lo: lo, hi: hi },
         What::TopNode => {
             if hi <= lo {
                 return Ends { lo: lo, hi: hi };
@@ -91,25 +88,12 @@ fn moved(lo: usize, hi: usize, did: What) -> Ends
             let next = lo + 1;
             Ends { lo: next, hi: hi }
         }
-        What::TopNil => Ends { lo: lo, hi: hi },
+        What::Full | What::BottomNil | What::TopNil => Ends { lo: lo, hi: hi },
     }
 }
 
-// One more where it counts; none where it does not.
-pub(crate) fn more(h: bool, k: usize) -> usize
-    requires { ⌜ k + 1 < 2 ^ 64 ⌝ }
-    ensures { λ r. ⌜ r ≡ cond h (k + 1) k ⌝ }
-{
-    if h { k + 1 } else { k }
-}
-
-fn only(h: bool, k: usize) -> usize
-    ensures { λ r. ⌜ r ≡ cond h k 0 ⌝ }
-{
-    if h { k } else { 0 }
-}
-
-// The entry that breaks rule 4, the first by moment, or n. The node is put above each queue's bottom by every call; only a push then moves the bottom over it.
+// The entry that breaks rule 4, the first by moment, or n. The node is put above each queue's bottom by every call; only a push then moves the bottom
+// over it.
 pub(crate) fn first_unlawful(log: &[u8], n: usize, keys: &[usize; 256], count: usize) -> usize
     requires { ⌜ (n ≤ 256) × Fields (entryAt (now log)) n × Ordered (entryAt (now log)) n (now keys) count × Whole (now log) n ⌝ }
     ensures { λ r. ⌜ r ≡ first4 (entryAt (now (log .entry))) n ⌝ }
@@ -130,7 +114,7 @@ pub(crate) fn first_unlawful(log: &[u8], n: usize, keys: &[usize; 256], count: u
         let push = pushed(e);
         let l = lo[q];
         let h = hi[q];
-        let old = added_in(&added, only(push, c), node);
+        let old = added_in(&added, choose(push, c, 0), node);
         let ok = lawful(&nodes, l, h, did, node, !old);
         if !ok {
             return j;
@@ -140,7 +124,7 @@ pub(crate) fn first_unlawful(log: &[u8], n: usize, keys: &[usize; 256], count: u
         lo[q] = ends.lo;
         hi[q] = ends.hi;
         added[c] = node;
-        c = more(push, c);
+        c = choose(push, c + 1, c);
         k = k + 1;
     }
     n

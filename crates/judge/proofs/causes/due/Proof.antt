@@ -4,12 +4,6 @@ use borrow.Author.Needs.{needs}
 use Rattle.judge.proofs.causes.due.Statement.{statement}
 use Rattle.judge.proofs.causes.due.Tie as tie
 
-mul-key : tie.Need-mul-key
-mul-key c = search needs
-
-element-copy-out-key : tie.Need-element-copy-out-key
-element-copy-out-key c = search needs
-
 returns : tie.Need-returns
 returns c = rw (lt-ltb (c .before .before .args .k) (c .before .before .args .count) (c .before .if1 .taken))
 
@@ -17,4 +11,4 @@ returns-2 : tie.Need-returns-2
 returns-2 c = rw (le-ltb (c .before .args .k) (c .before .args .count) (c .if1 .left))
 
 pub due-spec : {M : Type 1} → statement M
-due-spec = tie.close (tie.spec mul-key element-copy-out-key returns returns-2)
+due-spec = tie.close (tie.spec (λ c. search needs) (λ c. search needs) returns returns-2)

@@ -1,4 +1,5 @@
--- `judge::causes::first_uncaused` meets its contract. The loop keeps `Shelves`: what is known of each queue after the first k moments, which lie before the ends of the entries that are left.
+-- `judge::causes::first_uncaused` meets its contract. The loop keeps `Shelves`: what is known of each queue after the first k moments, which lie
+-- before the ends of the entries that are left.
 use mathlib.Core.Path.{_≡_, ap, sym, _∙_}
 use mathlib.Core.Bool.{Bool, true, cond, _&&_}
 use mathlib.Core.List.{List}
@@ -11,19 +12,21 @@ use lib.ListN.{getD}
 use Rattle.log.specs.declared.What.{What}
 use Rattle.log.specs.Decode.{entryAt}
 use Rattle.log.specs.declared.Entry.{Entry}
-use Rattle.judge.specs.BoolLaws.{and-0, and-1}
-use Rattle.judge.specs.Search.{first}
-use Rattle.judge.specs.SearchLaws.{first-start, first-next, first-found, first-end}
-use Rattle.judge.specs.Rules.{breaks5}
-use Rattle.judge.specs.Order.{momentAt, indexAt, instant}
-use Rattle.judge.specs.Causes.{heldAfter}
-use Rattle.judge.specs.ShelfLaws.{Shelves, shelves-start, told, shelves-told}
-use Rattle.judge.specs.CauseLaws.{passed-next, nil-low, query-told, skip-told}
+use Rattle.base.proofs.Bools.{and-0, and-1}
+use Rattle.rules.specs.Search.{first}
+use Rattle.rules.proofs.SearchLaws.{first-start, first-next, first-found, first-end}
+use Rattle.rules.specs.Rules.{breaks5}
+use Rattle.judge.specs.inner.Order.{momentAt, indexAt, instant}
+use Rattle.judge.specs.inner.Causes.{heldAfter}
+use Rattle.judge.proofs.ShelfLaws.{Shelves, shelves-start, told, shelves-told}
+use Rattle.judge.proofs.CauseLaws.{passed-next, nil-low, query-told, skip-told}
 use Rattle.judge.proofs.causes.first_uncaused.Statement.{statement}
 use Rattle.judge.proofs.causes.first_uncaused.Tie as tie
 
 abbrev Inv-loop : tie.InvT-loop
-Inv-loop log n keys count held₀ filled₀ took₀ k₀ j₀ held filled took k j = (j ≤ n) × (k ≤ count) × (first (breaks5 (entryAt log) n) j (n - j) ≡ first (breaks5 (entryAt log) n) 0 n) × Shelves (entryAt log) n keys k held filled took × ((x : ℕ) → j ≤ x → x < n → instant keys k ≤ 2 * entryAt log x .end + 2)
+Inv-loop log n keys count held₀ filled₀ took₀ k₀ j₀ held filled took k j = (j ≤ n) × (k ≤ count)
+    × (first (breaks5 (entryAt log) n) j (n - j) ≡ first (breaks5 (entryAt log) n) 0 n) × Shelves (entryAt log) n keys k held filled took
+    × ((x : ℕ) → j ≤ x → x < n → instant keys k ≤ 2 * entryAt log x .end + 2)
 
 abbrev μ-loop : tie.MeasureT-loop
 μ-loop log n keys count held₀ filled₀ took₀ k₀ j₀ held filled took k j = (n - j) + (count - k)
@@ -65,13 +68,15 @@ Due = tie.Then2 Inv-loop μ-loop
 abbrev due-read : Due → Read
 due-read c = c .before .before .before .before
 
-due-is : (c : Due) → (ltb (loop-at (due-read c) .loop .k) (start (due-read c) .args .count) && leb (momentAt (keys-of (due-read c)) (loop-at (due-read c) .loop .k)) (2 * got (due-read c) .end + 1)) ≡ true
+due-is : (c : Due) → (ltb (loop-at (due-read c) .loop .k) (start (due-read c) .args .count) && leb
+    (momentAt (keys-of (due-read c)) (loop-at (due-read c) .loop .k)) (2 * got (due-read c) .end + 1)) ≡ true
 due-is c = sym (c .before .due .ensures) ∙ c .if2 .taken
 
 due-below : (c : Due) → loop-at (due-read c) .loop .k < start (due-read c) .args .count
 due-below c =
     let r = due-read c in
-    ltb-true (loop-at r .loop .k) (start r .args .count) (and-0 (ltb (loop-at r .loop .k) (start r .args .count)) (leb (momentAt (keys-of r) (loop-at r .loop .k)) (2 * got r .end + 1)) (due-is c))
+    ltb-true (loop-at r .loop .k) (start r .args .count) (and-0 (ltb (loop-at r .loop .k) (start r .args .count))
+    (leb (momentAt (keys-of r) (loop-at r .loop .k)) (2 * got r .end + 1)) (due-is c))
 
 due-upto : (c : Due) → momentAt (keys-of (due-read c)) (loop-at (due-read c) .loop .k) ≤ 2 * got (due-read c) .end + 1
 due-upto c =
@@ -95,13 +100,15 @@ call c = c .before .before .before .entry2 .result
 call-is : (c : Fed) → call c ≡ fun (due-read (fed-due c)) (indexAt (keys-of (due-read (fed-due c))) (loop-at (due-read (fed-due c)) .loop .k))
 call-is c = c .before .before .before .entry2 .ensures
 
-call-low : (c : Fed) → (call c .queue < 8) × (call c .process < 8) × (getD (loop-at (due-read (fed-due c)) .loop .held) (call c .queue) 0 ≤ loop-at (due-read (fed-due c)) .loop .k)
+call-low : (c : Fed) → (call c .queue < 8) × (call c .process < 8) × (getD (loop-at (due-read (fed-due c)) .loop .held) (call c .queue) 0 ≤ loop-at
+    (due-read (fed-due c)) .loop .k)
 call-low c =
     let d = fed-due c in
     let r = due-read d in
     let a = start r .args in
     let l = loop-at r .loop in
-    let t = told (fun r) (a .n) (keys-of r) (a .count) (start r .pre .0 .ordered) (l .k) (due-below d) (l .held) (l .filled) (l .took) (l .inv .3) (start r .pre .0 .fields) (call c) (call-is c) in
+    let t = told (fun r) (a .n) (keys-of r) (a .count) (start r .pre .0 .ordered) (l .k) (due-below d) (l .held) (l .filled) (l .took) (l .inv .3)
+    (start r .pre .0 .fields) (call c) (call-is c) in
     (t .queue, t .process, t .few)
 
 -- where its cause has been looked for
@@ -121,19 +128,27 @@ broken c =
     let a = start r .args in
     let l = loop-at r .loop in
     c .uncaused .ensures
-    ∙ query-told (fun r) (a .n) (keys-of r) (a .count) (start r .pre .0) (l .k) (l .inv .1) (l .held) (l .filled) (l .took) (l .inv .3) (l .j) (below r) (l .inv .4) (got r) (is r)
+    ∙ query-told (fun r) (a .n) (keys-of r) (a .count) (start r .pre .0) (l .k) (l .inv .1) (l .held) (l .filled) (l .took) (l .inv .3) (l .j)
+    (below r) (l .inv .4) (got r) (is r)
     (sym (d .due .ensures) ∙ c .before .before .before .before .if2 .left) (sym (r .top-nil .ensures) ∙ not-false _ (d .before .before .if1 .left))
 
 loop-holds : tie.Need-loop-holds Inv-loop μ-loop
 loop-holds c =
-    let a = c .before .args in
-    (search needs, search needs, first-start (breaks5 (entryAt (a .log .now)) (a .n)) (a .n), shelves-start (entryAt (a .log .now)) (a .n) (a .keys .now), λ x u v. omega arith)
+    let a = c .before .args in (
+      search needs,
+      search needs,
+      first-start (breaks5 (entryAt (a .log .now)) (a .n)) (a .n),
+      shelves-start (entryAt (a .log .now)) (a .n)
+          (a .keys .now),
+      λ x u v. omega arith,
+    )
 
 entry-requires : tie.Need-entry-requires Inv-loop μ-loop
-entry-requires c κs = (omega (arith, c .loop-test .taken, c .before .before .before .pre .0 .small), omega (arith, c .loop-test .taken, c .before .before .before .pre .1))
-
-top-nil-requires : tie.Need-top-nil-requires Inv-loop μ-loop
-top-nil-requires c κs = search needs
+entry-requires c κs = (
+  omega (arith, c .loop-test .taken, c .before .before .before .pre .0 .small),
+  omega
+      (arith, c .loop-test .taken, c .before .before .before .pre .1),
+)
 
 add-j : tie.Need-add-j Inv-loop μ-loop
 add-j c = omega (arith, below (c .before), start (c .before) .pre .0 .small)
@@ -148,19 +163,11 @@ loop-again c =
     let l = loop-at r .loop in (
       omega (arith, below r),
       l .inv .1,
-      first-next (breaks5 (fun r) (a .n)) (l .j) (a .n) (below r) (skip-told (fun r) (a .n) (keys-of r) (a .count) (start r .pre .0) (l .j) (got r) (is r) (sym (r .top-nil .ensures) ∙ not-true _ (c .if1 .taken))) ∙ l .inv .2,
+      first-next (breaks5 (fun r) (a .n)) (l .j) (a .n) (below r) (skip-told (fun r) (a .n) (keys-of r) (a .count) (start r .pre .0) (l .j) (got r)
+          (is r) (sym (r .top-nil .ensures) ∙ not-true _ (c .if1 .taken))) ∙ l .inv .2,
       l .inv .3,
       λ x u v. l .inv .4 x (omega arith) v,
     )
-
-cast-to : tie.Need-cast-to Inv-loop μ-loop
-cast-to c = search needs
-
-mul-to : tie.Need-mul-to Inv-loop μ-loop
-mul-to c = search needs
-
-add-to : tie.Need-add-to Inv-loop μ-loop
-add-to c = search needs
 
 due-requires : tie.Need-due-requires Inv-loop μ-loop
 due-requires c κs = omega (arith, start (c .before .before) .pre .0 .ordered .few, start (c .before .before) .pre .0 .small)
@@ -177,18 +184,6 @@ entry-requires-2 c κs =
     let r = due-read d in
     let i = start r .pre .0 .ordered .index (loop-at r .loop .k) (due-below d) in
     (omega (arith, i, start r .pre .0 .small), omega (arith, i, start r .pre .1))
-
-cast-q : tie.Need-cast-q Inv-loop μ-loop
-cast-q c = search needs
-
-cast-moment : tie.Need-cast-moment Inv-loop μ-loop
-cast-moment c = search needs
-
-mul-at : tie.Need-mul-at Inv-loop μ-loop
-mul-at c = search needs
-
-cast-at : tie.Need-cast-at Inv-loop μ-loop
-cast-at c = search needs
 
 add-at : tie.Need-add-at Inv-loop μ-loop
 add-at c = omega (arith, call-low c .0, call-low c .1)
@@ -211,9 +206,6 @@ mul-t c = omega (arith, call-low c .0, call-low c .1)
 array-read-t : tie.Need-array-read-t Inv-loop μ-loop
 array-read-t c = omega (arith, call-low c .0, call-low c .1)
 
-what-requires : tie.Need-what-requires Inv-loop μ-loop
-what-requires c κs = search needs
-
 held-after-requires : tie.Need-held-after-requires Inv-loop μ-loop
 held-after-requires c κs = omega (arith, call-low (c .before) .2, due-low (fed-due (c .before)))
 
@@ -223,32 +215,27 @@ mul-held c = omega (arith, call-low (c .before .before) .0)
 array-write-held : tie.Need-array-write-held Inv-loop μ-loop
 array-write-held c = call-low (c .before .before) .0
 
-pushed-requires : tie.Need-pushed-requires Inv-loop μ-loop
-pushed-requires c κs = search needs
-
-choose-requires : tie.Need-choose-requires Inv-loop μ-loop
-choose-requires c κs = search needs
-
 mul-filled : tie.Need-mul-filled Inv-loop μ-loop
 mul-filled c = omega (arith, call-low (c .before .before .before .before) .0)
 
 array-write-filled : tie.Need-array-write-filled Inv-loop μ-loop
 array-write-filled c = call-low (c .before .before .before .before) .0
 
-took-top-requires : tie.Need-took-top-requires Inv-loop μ-loop
-took-top-requires c κs = search needs
-
-add-choose : tie.Need-add-choose Inv-loop μ-loop
-add-choose c = search needs
-
-choose-requires-2 : tie.Need-choose-requires-2 Inv-loop μ-loop
-choose-requires-2 c κs = search needs
-
 mul-took : tie.Need-mul-took Inv-loop μ-loop
-mul-took c = omega (arith, call-low (c .before .before .before .before .before .before) .0, call-low (c .before .before .before .before .before .before) .1)
+mul-took c = omega (
+  arith,
+  call-low (c .before .before .before .before .before .before) .0,
+  call-low
+      (c .before .before .before .before .before .before) .1,
+)
 
 array-write-took : tie.Need-array-write-took Inv-loop μ-loop
-array-write-took c = omega (arith, call-low (c .before .before .before .before .before .before) .0, call-low (c .before .before .before .before .before .before) .1)
+array-write-took c = omega (
+  arith,
+  call-low (c .before .before .before .before .before .before) .0,
+  call-low
+      (c .before .before .before .before .before .before) .1,
+)
 
 add-k : tie.Need-add-k Inv-loop μ-loop
 add-k c = omega (arith, due-low (fed-due (c .before .before .before .before .before .before)))
@@ -267,10 +254,14 @@ loop-again-2 c =
       l .inv .0,
       omega (arith, due-below d),
       l .inv .2,
-      shelves-told (fun r) (a .n) (keys-of r) (a .count) (start r .pre .0 .ordered) (l .k) (due-below d) (l .held) (l .filled) (l .took) (l .inv .3) (start r .pre .0 .fields) e (call-is k) _ _ _
-          (c .before .before .before .before .held-after .ensures ∙ ap (λ (w : What). heldAfter w (getD (l .held) (e .queue) 0)) (c .before .before .before .before .before .what .ensures))
-          (c .before .before .choose .ensures ∙ ap (λ (t : Bool). cond (t && eqb (getD (l .held) (e .queue) 0) 0) (e .moment) (getD (l .filled) (e .queue) 0)) (c .before .before .before .pushed .ensures))
-          (c .choose2 .ensures ∙ ap (λ (t : Bool). cond t (e .moment + 1) (getD (l .took) (8 * e .queue + e .process) 0)) (c .before .took-top .ensures)),
+      shelves-told (fun r) (a .n) (keys-of r) (a .count) (start r .pre .0 .ordered) (l .k) (due-below d) (l .held) (l .filled) (l .took) (l .inv .3)
+          (start r .pre .0 .fields) e (call-is k) _ _ _
+          (c .before .before .before .before .held-after .ensures
+          ∙ ap (λ (w : What). heldAfter w (getD (l .held) (e .queue) 0)) (c .before .before .before .before .before .what .ensures))
+          (c .before .before .choose .ensures ∙ ap (λ (t : Bool). cond (t && eqb (getD (l .held) (e .queue) 0) 0) (e .moment)
+          (getD (l .filled) (e .queue) 0)) (c .before .before .before .pushed .ensures))
+          (c .choose2 .ensures ∙ ap (λ (t : Bool). cond t (e .moment + 1) (getD (l .took) (8 * e .queue + e .process) 0))
+          (c .before .took-top .ensures)),
       passed-next (fun r) (a .n) (keys-of r) (a .count) (start r .pre .0) (got r) (l .k) (l .j) (is r) (below r) (due-upto d),
     )
 
@@ -313,21 +304,21 @@ first-uncaused-spec =
     μ-loop
     loop-holds
     entry-requires
-    top-nil-requires
+    (λ c κs. search needs)
     add-j
     loop-less
     loop-again
-    cast-to
-    mul-to
-    add-to
+    (λ c. search needs)
+    (λ c. search needs)
+    (λ c. search needs)
     due-requires
     mul-key
     element-copy-out-key
     entry-requires-2
-    cast-q
-    cast-moment
-    mul-at
-    cast-at
+    (λ c. search needs)
+    (λ c. search needs)
+    (λ c. search needs)
+    (λ c. search needs)
     add-at
     mul-h
     array-read-h
@@ -335,17 +326,17 @@ first-uncaused-spec =
     array-read-f
     mul-t
     array-read-t
-    what-requires
+    (λ c κs. search needs)
     held-after-requires
     mul-held
     array-write-held
-    pushed-requires
-    choose-requires
+    (λ c κs. search needs)
+    (λ c κs. search needs)
     mul-filled
     array-write-filled
-    took-top-requires
-    add-choose
-    choose-requires-2
+    (λ c κs. search needs)
+    (λ c. search needs)
+    (λ c κs. search needs)
     mul-took
     array-write-took
     add-k

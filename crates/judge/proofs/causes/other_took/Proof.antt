@@ -5,8 +5,8 @@ use Prim.Native.Nat.{_+_, _-_, _*_, _≤_}
 use borrow.Author.Needs.{needs}
 use lib.Dec.{eqb, ltb}
 use lib.ListN.{getD}
-use Rattle.judge.specs.Search.{any}
-use Rattle.judge.specs.SearchLaws.{any-next, at-end}
+use Rattle.rules.specs.Search.{any}
+use Rattle.rules.proofs.SearchLaws.{any-next, at-end}
 use Rattle.judge.proofs.causes.other_took.Statement.{statement}
 use Rattle.judge.proofs.causes.other_took.Tie as tie
 
@@ -19,24 +19,6 @@ abbrev μ-loop : tie.MeasureT-loop
 loop-holds : tie.Need-loop-holds Inv-loop μ-loop
 loop-holds c = (search needs, refl)
 
-mul-at : tie.Need-mul-at Inv-loop μ-loop
-mul-at c = search needs
-
-add-at : tie.Need-add-at Inv-loop μ-loop
-add-at c = search needs
-
-mul-x : tie.Need-mul-x Inv-loop μ-loop
-mul-x c = search needs
-
-element-copy-out-x : tie.Need-element-copy-out-x Inv-loop μ-loop
-element-copy-out-x c = search needs
-
-add-p : tie.Need-add-p Inv-loop μ-loop
-add-p c = search needs
-
-loop-less : tie.Need-loop-less Inv-loop μ-loop
-loop-less c = search needs
-
 loop-again : tie.Need-loop-again Inv-loop μ-loop
 loop-again c =
     let a = c .before .before .before .args in
@@ -47,7 +29,8 @@ returns : tie.Need-returns Inv-loop μ-loop
 returns c =
     let a = c .before .before .args in
     let l = c .before .loop in
-    at-end (any (λ x. not (eqb x (a .process)) && ltb (a .from) (getD (a .took .now) (8 * a .q + x) 0))) (l .p) 8 (l .hit) (l .inv .0) (c .loop-test .left) (l .inv .1)
+    at-end (any (λ x. not (eqb x (a .process)) && ltb (a .from) (getD (a .took .now) (8 * a .q + x) 0))) (l .p) 8 (l .hit) (l .inv .0)
+    (c .loop-test .left) (l .inv .1)
 
 pub other-took-spec : {M : Type 1} → statement M
 other-took-spec =
@@ -56,11 +39,11 @@ other-took-spec =
     Inv-loop
     μ-loop
     loop-holds
-    mul-at
-    add-at
-    mul-x
-    element-copy-out-x
-    add-p
-    loop-less
+    (λ c. search needs)
+    (λ c. search needs)
+    (λ c. search needs)
+    (λ c. search needs)
+    (λ c. search needs)
+    (λ c. search needs)
     loop-again
     returns)

@@ -1,5 +1,5 @@
 -- `judge::fields::bears` meets its contract.
-use Rattle.judge.specs.KindLaws.{bears-is}
+use Rattle.judge.proofs.KindLaws.{bears-is}
 use Rattle.judge.proofs.fields.bears.Statement.{statement}
 use Rattle.judge.proofs.fields.bears.Tie as tie
 

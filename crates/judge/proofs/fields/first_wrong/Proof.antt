@@ -5,9 +5,9 @@ use Prim.Native.Nat.{_-_, _≤_}
 use native.Mathlib.Omega.{arith}
 use borrow.Author.Needs.{needs}
 use Rattle.log.specs.Decode.{entryAt}
-use Rattle.judge.specs.SearchLaws.{first-start, first-next, first-found, first-end}
-use Rattle.judge.specs.Search.{first}
-use Rattle.judge.specs.Rules.{keeps1, breaks1}
+use Rattle.rules.proofs.SearchLaws.{first-start, first-next, first-found, first-end}
+use Rattle.rules.specs.Search.{first}
+use Rattle.rules.specs.Rules.{keeps1, breaks1}
 use Rattle.judge.proofs.fields.first_wrong.Statement.{statement}
 use Rattle.judge.proofs.fields.first_wrong.Tie as tie
 
@@ -21,10 +21,11 @@ loop-holds : tie.Need-loop-holds Inv-loop μ-loop
 loop-holds c = let a = c .before .args in (search needs, first-start (breaks1 (entryAt (a .log .now)) (a .p)) (a .n))
 
 entry-requires : tie.Need-entry-requires Inv-loop μ-loop
-entry-requires c κs = (omega (arith, c .loop-test .taken, c .before .before .before .pre .0), omega (arith, c .loop-test .taken, c .before .before .before .pre .1))
-
-keeps-fields-requires : tie.Need-keeps-fields-requires Inv-loop μ-loop
-keeps-fields-requires c κs = search needs
+entry-requires c κs = (
+  omega (arith, c .loop-test .taken, c .before .before .before .pre .0),
+  omega
+      (arith, c .loop-test .taken, c .before .before .before .pre .1),
+)
 
 returns : tie.Need-returns Inv-loop μ-loop
 returns c =
@@ -32,12 +33,6 @@ returns c =
     let l = c .before .before .before .before .loop in
     let e = ap not (sym (c .before .keeps-fields .ensures ∙ ap (keeps1 (a .p)) (c .before .before .entry .ensures))) ∙ c .if1 .taken in
     first-found (breaks1 (entryAt (a .log .now)) (a .p)) (l .i) (a .n) (c .before .before .before .loop-test .taken) e ∙ l .inv .1
-
-add-i : tie.Need-add-i Inv-loop μ-loop
-add-i c = search needs
-
-loop-less : tie.Need-loop-less Inv-loop μ-loop
-loop-less c = search needs
 
 loop-again : tie.Need-loop-again Inv-loop μ-loop
 loop-again c =
@@ -59,9 +54,9 @@ first-wrong-spec =
     μ-loop
     loop-holds
     entry-requires
-    keeps-fields-requires
+    (λ c κs. search needs)
     returns
-    add-i
-    loop-less
+    (λ c. search needs)
+    (λ c. search needs)
     loop-again
     returns-2)

@@ -1,5 +1,5 @@
 -- `judge::fields::full` meets its contract.
-use Rattle.judge.specs.KindLaws.{full-is}
+use Rattle.judge.proofs.KindLaws.{full-is}
 use Rattle.judge.proofs.fields.full.Statement.{statement}
 use Rattle.judge.proofs.fields.full.Tie as tie
 

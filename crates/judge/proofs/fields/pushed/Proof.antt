@@ -1,5 +1,5 @@
 -- `judge::fields::pushed` meets its contract.
-use Rattle.judge.specs.KindLaws.{pushed-is}
+use Rattle.judge.proofs.KindLaws.{pushed-is}
 use Rattle.judge.proofs.fields.pushed.Statement.{statement}
 use Rattle.judge.proofs.fields.pushed.Tie as tie
 

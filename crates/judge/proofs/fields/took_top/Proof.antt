@@ -1,5 +1,5 @@
 -- `judge::fields::took_top` meets its contract.
-use Rattle.judge.specs.KindLaws.{took-top-is}
+use Rattle.judge.proofs.KindLaws.{took-top-is}
 use Rattle.judge.proofs.fields.took_top.Statement.{statement}
 use Rattle.judge.proofs.fields.took_top.Tie as tie
 

@@ -1,5 +1,5 @@
 -- `judge::fields::top_nil` meets its contract.
-use Rattle.judge.specs.KindLaws.{top-nil-is}
+use Rattle.judge.proofs.KindLaws.{top-nil-is}
 use Rattle.judge.proofs.fields.top_nil.Statement.{statement}
 use Rattle.judge.proofs.fields.top_nil.Tie as tie
 

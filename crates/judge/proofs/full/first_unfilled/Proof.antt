@@ -1,4 +1,5 @@
--- `judge::full::first_unfilled` meets its contract. The loop keeps how many pushes on each queue stand before, and that the first among the entries that are left is the first of all.
+-- `judge::full::first_unfilled` meets its contract. The loop keeps how many pushes on each queue stand before, and that the first among the entries
+-- that are left is the first of all.
 use mathlib.Core.Path.{_≡_, sym, _∙_}
 use mathlib.Core.Bool.{_&&_}
 use Prim.Native.Nat.{ℕ, _-_, _≤_, _<_}
@@ -8,15 +9,16 @@ use lib.Dec.{ltb}
 use lib.ListN.{getD}
 use Rattle.log.specs.Decode.{entryAt}
 use Rattle.log.specs.declared.Entry.{Entry}
-use Rattle.judge.specs.Search.{first}
-use Rattle.judge.specs.SearchLaws.{first-start, first-next, first-found, first-end}
-use Rattle.judge.specs.Rules.{breaks6}
-use Rattle.judge.specs.FullLaws.{Counted, counted-start, low-told, full-told, next-told}
+use Rattle.rules.specs.Search.{first}
+use Rattle.rules.proofs.SearchLaws.{first-start, first-next, first-found, first-end}
+use Rattle.rules.specs.Rules.{breaks6}
+use Rattle.judge.proofs.FullLaws.{Counted, counted-start, low-told, full-told, next-told}
 use Rattle.judge.proofs.full.first_unfilled.Statement.{statement}
 use Rattle.judge.proofs.full.first_unfilled.Tie as tie
 
 abbrev Inv-loop : tie.InvT-loop
-Inv-loop log n slots pushes₀ j₀ pushes j = (j ≤ n) × (first (breaks6 (entryAt log) n slots) j (n - j) ≡ first (breaks6 (entryAt log) n slots) 0 n) × Counted (entryAt log) j pushes
+Inv-loop log n slots pushes₀ j₀ pushes j = (j ≤ n) × (first (breaks6 (entryAt log) n slots) j (n - j) ≡ first (breaks6 (entryAt log) n slots) 0 n)
+    × Counted (entryAt log) j pushes
 
 abbrev μ-loop : tie.MeasureT-loop
 μ-loop log n slots pushes₀ j₀ pushes j = n - j
@@ -49,21 +51,29 @@ low c =
     low-told (fun c) (start c .args .n) (start c .pre .1) (start c .args .slots) (l .j) (below c) (l .pushes) (l .inv .2) (got c) (is c)
 
 -- where it has been told whether it is a FULL
-broken : (c : tie.After-full Inv-loop μ-loop) → (c .full .result && ltb (getD (loop-at (c .before) .loop .pushes) (got (c .before) .queue) 0) (start (c .before) .args .slots))
+broken : (c : tie.After-full Inv-loop μ-loop) → (c .full .result && ltb (getD (loop-at (c .before) .loop .pushes) (got (c .before) .queue) 0)
+    (start (c .before) .args .slots))
     ≡ breaks6 (fun (c .before)) (start (c .before) .args .n) (start (c .before) .args .slots) (loop-at (c .before) .loop .j)
 broken c =
     let r = c .before in
     let l = loop-at r .loop in
-    full-told (fun r) (start r .args .n) (start r .pre .1) (start r .args .slots) (l .j) (below r) (l .pushes) (l .inv .2) (got r) (is r) (c .full .result) (c .full .ensures)
+    full-told (fun r) (start r .args .n) (start r .pre .1) (start r .args .slots) (l .j) (below r) (l .pushes) (l .inv .2) (got r) (is r)
+    (c .full .result) (c .full .ensures)
 
 loop-holds : tie.Need-loop-holds Inv-loop μ-loop
-loop-holds c = let a = c .before .args in (search needs, first-start (breaks6 (entryAt (a .log .now)) (a .n) (a .slots)) (a .n), counted-start (entryAt (a .log .now)))
+loop-holds c = let a = c .before .args in (
+  search needs,
+  first-start (breaks6 (entryAt (a .log .now)) (a .n) (a .slots)) (a .n),
+  counted-start
+      (entryAt (a .log .now)),
+)
 
 entry-requires : tie.Need-entry-requires Inv-loop μ-loop
-entry-requires c κs = (omega (arith, c .loop-test .taken, c .before .before .before .pre .0), omega (arith, c .loop-test .taken, c .before .before .before .pre .2))
-
-cast-q : tie.Need-cast-q Inv-loop μ-loop
-cast-q c = search needs
+entry-requires c κs = (
+  omega (arith, c .loop-test .taken, c .before .before .before .pre .0),
+  omega
+      (arith, c .loop-test .taken, c .before .before .before .pre .2),
+)
 
 mul-k : tie.Need-mul-k Inv-loop μ-loop
 mul-k c = omega (arith, low c .0)
@@ -71,20 +81,15 @@ mul-k c = omega (arith, low c .0)
 array-read-k : tie.Need-array-read-k Inv-loop μ-loop
 array-read-k c = low c .0
 
-full-requires : tie.Need-full-requires Inv-loop μ-loop
-full-requires c κs = search needs
-
 returns : tie.Need-returns Inv-loop μ-loop
 returns c =
     let r = c .before .before in
     let l = loop-at r .loop in
-    first-found (breaks6 (fun r) (start r .args .n) (start r .args .slots)) (l .j) (start r .args .n) (below r) (sym (broken (c .before)) ∙ c .if1 .taken) ∙ l .inv .1
+    first-found (breaks6 (fun r) (start r .args .n) (start r .args .slots)) (l .j) (start r .args .n) (below r)
+    (sym (broken (c .before)) ∙ c .if1 .taken) ∙ l .inv .1
 
-pushed-requires : tie.Need-pushed-requires Inv-loop μ-loop
-pushed-requires c κs = search needs
-
-more-requires : tie.Need-more-requires Inv-loop μ-loop
-more-requires c κs = omega (arith, low (c .before .before .before) .1, below (c .before .before .before), start (c .before .before .before) .pre .0)
+add-choose : tie.Need-add-choose Inv-loop μ-loop
+add-choose c = omega (arith, low (c .before .before .before) .1, below (c .before .before .before), start (c .before .before .before) .pre .0)
 
 mul-pushes : tie.Need-mul-pushes Inv-loop μ-loop
 mul-pushes c = omega (arith, low (c .before .before .before .before) .0)
@@ -103,9 +108,11 @@ loop-again c =
     let r = c .before .before .before .before in
     let l = loop-at r .loop in (
       omega (arith, below r),
-      first-next (breaks6 (fun r) (start r .args .n) (start r .args .slots)) (l .j) (start r .args .n) (below r) (sym (broken (c .before .before .before)) ∙ c .before .before .if1 .left) ∙ l .inv .1,
-      next-told (fun r) (start r .args .n) (start r .pre .1) (start r .args .slots) (l .j) (below r) (l .pushes) (l .inv .2) (got r) (is r) (c .more .result) (c .before .pushed .result)
-          (c .before .pushed .ensures) (c .more .ensures),
+      first-next (breaks6 (fun r) (start r .args .n) (start r .args .slots)) (l .j) (start r .args .n) (below r)
+          (sym (broken (c .before .before .before)) ∙ c .before .before .if1 .left) ∙ l .inv .1,
+      next-told (fun r) (start r .args .n) (start r .pre .1) (start r .args .slots) (l .j) (below r) (l .pushes) (l .inv .2) (got r) (is r)
+          (c .choose .result) (c .before .pushed .result)
+          (c .before .pushed .ensures) (c .choose .ensures),
     )
 
 returns-2 : tie.Need-returns-2 Inv-loop μ-loop
@@ -121,13 +128,14 @@ first-unfilled-spec =
     μ-loop
     loop-holds
     entry-requires
-    cast-q
+    (λ c. search needs)
     mul-k
     array-read-k
-    full-requires
+    (λ c κs. search needs)
     returns
-    pushed-requires
-    more-requires
+    (λ c κs. search needs)
+    add-choose
+    (λ c κs. search needs)
     mul-pushes
     array-write-pushes
     add-j

@@ -1,4 +1,5 @@
--- `judge::replay::first_unlawful` meets its contract. The loop keeps `Replayed`: after the first k moments each row holds what its queue held, and no call was unlawful.
+-- `judge::replay::first_unlawful` meets its contract. The loop keeps `Replayed`: after the first k moments each row holds what its queue held, and no
+-- call was unlawful.
 use mathlib.Core.Path.{_≡_, refl, sym, _∙_}
 use mathlib.Core.List.{List}
 use Prim.Native.Nat.{ℕ, _-_, _≤_, _<_}
@@ -8,10 +9,10 @@ use borrow.Author.Tests.{not-true, not-false}
 use lib.ListN.{getD}
 use Rattle.log.specs.Decode.{entryAt}
 use Rattle.log.specs.declared.Entry.{Entry}
-use Rattle.judge.specs.Rules.{lawfulAt}
-use Rattle.judge.specs.Order.{indexAt}
-use Rattle.judge.specs.ReplayLaws.{worst-is, none-worst}
-use Rattle.judge.specs.RowLaws.{Replayed, replay-start, told, ok-told, turn-told, wrong-is, added-low, only-le}
+use Rattle.rules.specs.Rules.{lawfulAt}
+use Rattle.judge.specs.inner.Order.{indexAt}
+use Rattle.judge.proofs.ReplayLaws.{worst-is, none-worst}
+use Rattle.judge.proofs.RowLaws.{Replayed, replay-start, told, ok-told, turn-told, wrong-is, added-low, only-le}
 use Rattle.judge.proofs.replay.first_unlawful.Statement.{statement}
 use Rattle.judge.proofs.replay.first_unlawful.Tie as tie
 
@@ -49,12 +50,14 @@ got c = c .before .before .before .entry .result
 is : (c : Read) → got c ≡ fun c (indexAt (keys c) (at c))
 is c = c .before .before .before .entry .ensures
 
-told-of : (c : Read) → (got c .queue < 8) × (getD (loop-at c .loop .lo) (got c .queue) 0 ≤ getD (loop-at c .loop .hi) (got c .queue) 0) × (getD (loop-at c .loop .hi) (got c .queue) 0 < 2048)
+told-of : (c : Read) → (got c .queue < 8) × (getD (loop-at c .loop .lo) (got c .queue) 0 ≤ getD (loop-at c .loop .hi) (got c .queue) 0)
+    × (getD (loop-at c .loop .hi) (got c .queue) 0 < 2048)
 told-of c =
     let l = loop-at c .loop in
     let a = start c .args in
     let p = start c .pre in
-    let t = told (fun c) (a .n) (keys c) (a .count) (p .2) (l .k) (below c) (l .nodes) (l .lo) (l .hi) (l .added) (l .c) (l .inv .1) (p .0) (p .1) (got c) (is c) in
+    let t = told (fun c) (a .n) (keys c) (a .count) (p .2) (l .k) (below c) (l .nodes) (l .lo) (l .hi) (l .added) (l .c) (l .inv .1) (p .0) (p .1)
+    (got c) (is c) in
     (t .queue, t .low, t .high)
 
 few : (c : Read) → loop-at c .loop .c < 256
@@ -68,14 +71,18 @@ few c =
 abbrev Judged : Type 0
 Judged = tie.After-lawful Inv-loop μ-loop
 
-ok-is : (c : Judged) → c .lawful .result ≡ lawfulAt (fun (c .before .before .before .before .before)) (start (c .before .before .before .before .before) .args .n) (fun (c .before .before .before .before .before) (indexAt (keys (c .before .before .before .before .before)) (at (c .before .before .before .before .before))))
+ok-is : (c : Judged) → c .lawful .result ≡ lawfulAt (fun (c .before .before .before .before .before))
+    (start (c .before .before .before .before .before) .args .n) (fun (c .before .before .before .before .before)
+    (indexAt (keys (c .before .before .before .before .before)) (at (c .before .before .before .before .before))))
 ok-is c =
     let r = c .before .before .before .before .before in
     let l = loop-at r .loop in
     let a = start r .args in
     let p = start r .pre in
-    ok-told (fun r) (a .n) (keys r) (a .count) (p .2) (l .k) (below r) (l .nodes) (l .lo) (l .hi) (l .added) (l .c) (l .inv .1) (p .0) (p .1) (got r) (is r)
-    _ _ _ _ _ (r .before .what .ensures) (r .pushed .ensures) (c .before .before .before .only .ensures) (c .before .before .added-in .ensures) (c .lawful .ensures)
+    ok-told (fun r) (a .n) (keys r) (a .count) (p .2) (l .k) (below r) (l .nodes) (l .lo) (l .hi) (l .added) (l .c) (l .inv .1) (p .0) (p .1) (got r)
+    (is r)
+    _ _ _ _ _ (r .before .what .ensures) (r .pushed .ensures) (c .before .before .before .choose .ensures) (c .before .before .added-in .ensures)
+    (c .lawful .ensures)
 
 loop-holds : tie.Need-loop-holds Inv-loop μ-loop
 loop-holds c =
@@ -94,15 +101,6 @@ entry-requires c κs =
     let i = p .2 .index (c .before .before .loop .k) (c .before .loop-test .taken) in
     (omega (arith, i, p .0), omega (arith, i, p .3))
 
-cast-q : tie.Need-cast-q Inv-loop μ-loop
-cast-q c = search needs
-
-what-requires : tie.Need-what-requires Inv-loop μ-loop
-what-requires c κs = search needs
-
-pushed-requires : tie.Need-pushed-requires Inv-loop μ-loop
-pushed-requires c κs = search needs
-
 mul-l : tie.Need-mul-l Inv-loop μ-loop
 mul-l c = omega (arith, told-of c .0)
 
@@ -115,17 +113,20 @@ mul-h c = omega (arith, told-of c .0)
 array-read-h : tie.Need-array-read-h Inv-loop μ-loop
 array-read-h c = told-of c .0
 
-only-requires : tie.Need-only-requires Inv-loop μ-loop
-only-requires c κs = search needs
-
 added-in-requires : tie.Need-added-in-requires Inv-loop μ-loop
-added-in-requires c κs = only-le (c .before .before .pushed .result) (loop-at (c .before .before) .loop .c) _ 256 (c .only .ensures) (omega (arith, few (c .before .before)))
+added-in-requires c κs = only-le (c .before .before .pushed .result) (loop-at (c .before .before) .loop .c) _ 256 (c .choose .ensures)
+    (omega (arith, few (c .before .before)))
 
 slice-aggregate-lawful : tie.Need-slice-aggregate-lawful Inv-loop μ-loop
 slice-aggregate-lawful c = sym (loop-at (c .before .before .before .before) .loop .inv .1 .nodes-long)
 
 lawful-requires : tie.Need-lawful-requires Inv-loop μ-loop
-lawful-requires c κs = omega (arith, told-of (c .before .before .before .before) .2, loop-at (c .before .before .before .before) .loop .inv .1 .nodes-long)
+lawful-requires c κs = omega (
+  arith,
+  told-of (c .before .before .before .before) .2,
+  loop-at
+      (c .before .before .before .before) .loop .inv .1 .nodes-long,
+)
 
 returns : tie.Need-returns Inv-loop μ-loop
 returns c =
@@ -134,11 +135,16 @@ returns c =
     let a = start r .args in
     let p = start r .pre in
     worst-is (fun r) (a .n) (keys r) (a .count) (p .2) (l .k) (below r)
-    (wrong-is (fun r) (a .n) (keys r) (a .count) (p .2) (l .k) (below r) (l .nodes) (l .lo) (l .hi) (l .added) (l .c) (l .inv .1) (p .0) (p .1) (sym (ok-is (c .before)) ∙ not-true _ (c .if1 .taken)))
+    (wrong-is (fun r) (a .n) (keys r) (a .count) (p .2) (l .k) (below r) (l .nodes) (l .lo) (l .hi) (l .added) (l .c) (l .inv .1) (p .0) (p .1)
+    (sym (ok-is (c .before)) ∙ not-true _ (c .if1 .taken)))
     (l .inv .1 .fine)
 
 moved-requires : tie.Need-moved-requires Inv-loop μ-loop
-moved-requires c κs = (told-of (c .before .before .before .before .before .before) .1, omega (arith, told-of (c .before .before .before .before .before .before) .2))
+moved-requires c κs = (
+  told-of (c .before .before .before .before .before .before) .1,
+  omega
+      (arith, told-of (c .before .before .before .before .before .before) .2),
+)
 
 mul-nodes : tie.Need-mul-nodes Inv-loop μ-loop
 mul-nodes c = omega (arith, told-of (c .before .before .before .before .before .before .before) .2)
@@ -164,11 +170,18 @@ mul-added c = omega (arith, few (c .before .before .before .before .before .befo
 array-write-added : tie.Need-array-write-added Inv-loop μ-loop
 array-write-added c = few (c .before .before .before .before .before .before .before)
 
-more-requires : tie.Need-more-requires Inv-loop μ-loop
-more-requires c κs = omega (arith, few (c .before .before .before .before .before .before .before))
+add-choose : tie.Need-add-choose Inv-loop μ-loop
+add-choose c = omega (arith, few (c .before .before .before .before .before .before .before))
 
 add-k : tie.Need-add-k Inv-loop μ-loop
-add-k c = omega (arith, below (c .before .before .before .before .before .before .before .before), start (c .before .before .before .before .before .before .before .before) .pre .2 .few, start (c .before .before .before .before .before .before .before .before) .pre .0)
+add-k c = omega (
+  arith,
+  below (c .before .before .before .before .before .before .before .before),
+  start
+      (c .before .before .before .before .before .before .before .before) .pre .2 .few,
+  start
+      (c .before .before .before .before .before .before .before .before) .pre .0,
+)
 
 loop-less : tie.Need-loop-less Inv-loop μ-loop
 loop-less c = omega (arith, below (c .before .before .before .before .before .before .before .before))
@@ -180,8 +193,10 @@ loop-again c =
     let a = start r .args in
     let p = start r .pre in (
       omega (arith, below r),
-      turn-told (fun r) (a .n) (keys r) (a .count) (p .2) (l .k) (below r) (l .nodes) (l .lo) (l .hi) (l .added) (l .c) (l .inv .1) (p .0) (p .1) (got r) (is r)
-          _ _ _ _ _ (r .before .what .ensures) (r .pushed .ensures) (c .before .moved .ensures .0) (c .before .moved .ensures .1) (c .more .ensures) (sym (ok-is (c .before .before .before)) ∙ not-false _ (c .before .before .if1 .left)),
+      turn-told (fun r) (a .n) (keys r) (a .count) (p .2) (l .k) (below r) (l .nodes) (l .lo) (l .hi) (l .added) (l .c) (l .inv .1) (p .0) (p .1)
+          (got r) (is r)
+          _ _ _ _ _ (r .before .what .ensures) (r .pushed .ensures) (c .before .moved .ensures .0) (c .before .moved .ensures .1)
+          (c .choose2 .ensures) (sym (ok-is (c .before .before .before)) ∙ not-false _ (c .before .before .if1 .left)),
     )
 
 returns-2 : tie.Need-returns-2 Inv-loop μ-loop
@@ -201,14 +216,14 @@ first-unlawful-spec =
     mul-key
     element-copy-out-key
     entry-requires
-    cast-q
-    what-requires
-    pushed-requires
+    (λ c. search needs)
+    (λ c κs. search needs)
+    (λ c κs. search needs)
     mul-l
     array-read-l
     mul-h
     array-read-h
-    only-requires
+    (λ c κs. search needs)
     added-in-requires
     slice-aggregate-lawful
     lawful-requires
@@ -222,7 +237,8 @@ first-unlawful-spec =
     array-write-hi
     mul-added
     array-write-added
-    more-requires
+    add-choose
+    (λ c κs. search needs)
     add-k
     loop-less
     loop-again

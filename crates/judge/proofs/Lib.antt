@@ -1,0 +1,13 @@
+-- Each public function's promise settles its result.
+pub mod Settled
+-- What an entry says, and a queue's nodes as a part of an array.
+pub mod KindLaws
+pub mod DequeLaws
+-- One rule each, as the code goes through them.
+pub mod EndLaws
+pub mod OrderLaws
+pub mod ReplayLaws
+pub mod RowLaws
+pub mod ShelfLaws
+pub mod CauseLaws
+pub mod FullLaws

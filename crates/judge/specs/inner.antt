@@ -1,0 +1,5 @@
+-- Terms of the code: a reader may skip them.
+pub mod Order
+pub mod Replay
+pub mod Causes
+pub mod Fulls

@@ -1,0 +1,187 @@
+-- Rules 1 to 3 of single entries and pairs: the tests and the statements say the same.
+use mathlib.Core.Path.{_≡_, refl, sym, ap}
+use mathlib.Core.Bool.{Bool, true, false, cond, _&&_, _||_, not, Bool·beq}
+use mathlib.Core.Logic.{_⊎_, inl, inr}
+use Prim.Native.Nat.{ℕ, _+_, _*_}
+use native.Mathlib.Omega.{arith}
+use borrow.Author.Tests.{lt-ltb, le-leb, eq-eqb, ltb-true, leb-true, eqb-true, eqb-false}
+use lib.Dec.{ltb, leb, eqb}
+use Rattle.log.specs.declared.Entry.{Entry}
+use Rattle.log.specs.declared.What.the-variants.{Pushed, Full, BottomNode, BottomNil, TopNode, TopNil}
+use Rattle.log.specs.Numbers.{push, bottomPop, topPop, nil, done, full, noMoment, kindOf, resultOf, what}
+use Rattle.rules.specs.Contents.{bears}
+use Rattle.rules.specs.Rules.{lastEnd, kindKnown, onOwnQueue, fullForPush, nilForPop, nodeUnlessNil}
+use Rattle.rules.specs.Rules.{keeps1, endsRise, startsAfter, clash, inCall, momentRight}
+use Rattle.rules.specs.Accepted.{Rule1, Rule2, Rule3}
+use Rattle.base.proofs.Bools.{contra, and-i, and-0, and-1, or-l, or-r, if-so, so-if, not-i, not-e, not-f}
+
+same-truth : (s t : Bool) → (s ≡ true → t ≡ true) → (t ≡ true → s ≡ true) → Bool·beq s t ≡ true
+same-truth true t h k = rw (h refl)
+same-truth false true h k = contra false (k refl) refl
+same-truth false false h k = refl
+
+truth-to : (s t : Bool) → Bool·beq s t ≡ true → s ≡ true → t ≡ true
+truth-to true true h e = refl
+truth-to true false h e = contra false h refl
+truth-to false t h e = contra false e refl
+
+truth-from : (s t : Bool) → Bool·beq s t ≡ true → t ≡ true → s ≡ true
+truth-from true t h e = refl
+truth-from false true h e = contra false h refl
+truth-from false false h e = e
+
+module _ (P : ℕ) (e : Entry) where
+  own-to : onOwnQueue e ≡ true → (e .kind ≡ push) ⊎ (e .kind ≡ bottomPop) → e .process ≡ e .queue
+  own-to h k = eqb-true (e .process) (e .queue) (if-so (eqb (e .kind) push || eqb (e .kind) bottomPop) (eqb (e .process) (e .queue)) h (either k))
+    where
+      either : (e .kind ≡ push) ⊎ (e .kind ≡ bottomPop) → (eqb (e .kind) push || eqb (e .kind) bottomPop) ≡ true
+      either (inl p) = or-l (eqb (e .kind) push) (eqb (e .kind) bottomPop) (eq-eqb (e .kind) push p)
+      either (inr p) = or-r (eqb (e .kind) push) (eqb (e .kind) bottomPop) (eq-eqb (e .kind) bottomPop p)
+
+  own-from : ((e .kind ≡ push) ⊎ (e .kind ≡ bottomPop) → e .process ≡ e .queue) → onOwnQueue e ≡ true
+  own-from h =
+      so-if (eqb (e .kind) push || eqb (e .kind) bottomPop) (eqb (e .process) (e .queue))
+      (λ t. eq-eqb (e .process) (e .queue) (h (one (eqb (e .kind) push) refl t)))
+    where
+      one : (s : Bool) → eqb (e .kind) push ≡ s → (s || eqb (e .kind) bottomPop) ≡ true → (e .kind ≡ push) ⊎ (e .kind ≡ bottomPop)
+      one true p t = inl (eqb-true (e .kind) push p)
+      one false p t = inr (eqb-true (e .kind) bottomPop t)
+
+  -- the tests of rule 1 up to each
+  abbrev to-queue : Bool
+  to-queue = ltb (e .process) P && ltb (e .queue) P
+
+  abbrev to-kind : Bool
+  to-kind = to-queue && kindKnown e
+
+  abbrev to-result : Bool
+  to-result = to-kind && leb (e .result) full
+
+  abbrev to-own : Bool
+  to-own = to-result && onOwnQueue e
+
+  abbrev to-full : Bool
+  to-full = to-own && fullForPush e
+
+  abbrev to-nil : Bool
+  to-nil = to-full && nilForPop e
+
+  abbrev to-node : Bool
+  to-node = to-nil && nodeUnlessNil e
+
+  abbrev to-start : Bool
+  to-start = to-node && leb (e .start) (e .end)
+
+  pub fields : keeps1 P e ≡ true → Rule1 P e
+  fields h =
+      let h9 = and-0 to-start (leb (e .end) lastEnd) h in
+      let h8 = and-0 to-node (leb (e .start) (e .end)) h9 in
+      let h7 = and-0 to-nil (nodeUnlessNil e) h8 in
+      let h6 = and-0 to-full (nilForPop e) h7 in
+      let h5 = and-0 to-own (fullForPush e) h6 in
+      let h4 = and-0 to-result (onOwnQueue e) h5 in
+      let h3 = and-0 to-kind (leb (e .result) full) h4 in
+      let h2 = and-0 to-queue (kindKnown e) h3 in
+      let kind = and-1 to-queue (kindKnown e) h3 in
+      let node = and-1 to-nil (nodeUnlessNil e) h8 in
+      record {
+        process = ltb-true (e .process) P (and-0 (ltb (e .process) P) (ltb (e .queue) P) h2);
+        queue = ltb-true (e .queue) P (and-1 (ltb (e .process) P) (ltb (e .queue) P) h2);
+        kind-from = leb-true push (e .kind) (and-0 (leb push (e .kind)) (leb (e .kind) topPop) kind);
+        kind-to = leb-true (e .kind) topPop (and-1 (leb push (e .kind)) (leb (e .kind) topPop) kind);
+        result = leb-true (e .result) full (and-1 to-kind (leb (e .result) full) h4);
+        own = own-to (and-1 to-result (onOwnQueue e) h5);
+        full-push = λ r. eqb-true (e .kind) push (if-so (eqb (e .result) full) (eqb (e .kind) push) (and-1 to-own (fullForPush e) h6)
+            (eq-eqb (e .result) full r));
+        nil-pop = λ r k. not-e (eqb (e .kind) push)
+            (if-so (eqb (e .result) nil) (not (eqb (e .kind) push)) (and-1 to-full (nilForPop e) h7) (eq-eqb (e .result) nil r))
+            (eq-eqb (e .kind) push k);
+        node-nil = λ v. eqb-true (e .result) nil (truth-to (eqb (e .node) 0) (eqb (e .result) nil) node (eq-eqb (e .node) 0 v));
+        nil-node = λ r. eqb-true (e .node) 0 (truth-from (eqb (e .node) 0) (eqb (e .result) nil) node (eq-eqb (e .result) nil r));
+        start = leb-true (e .start) (e .end) (and-1 to-node (leb (e .start) (e .end)) h9);
+        end = leb-true (e .end) lastEnd (and-1 to-start (leb (e .end) lastEnd) h);
+      }
+
+  pub fields-back : Rule1 P e → keeps1 P e ≡ true
+  fields-back r =
+      and-i (and-i (and-i (and-i (and-i (and-i (and-i (and-i (and-i
+      (lt-ltb (e .process) P (r .process)) (lt-ltb (e .queue) P (r .queue)))
+      (and-i (le-leb push (e .kind) (r .kind-from)) (le-leb (e .kind) topPop (r .kind-to))))
+      (le-leb (e .result) full (r .result)))
+      (own-from (r .own)))
+      (so-if (eqb (e .result) full) (eqb (e .kind) push) (λ t. eq-eqb (e .kind) push (r .full-push (eqb-true (e .result) full t)))))
+      (so-if (eqb (e .result) nil) (not (eqb (e .kind) push)) (λ t. not-i (eqb (e .kind) push)
+      (λ k. r .nil-pop (eqb-true (e .result) nil t) (eqb-true (e .kind) push k)))))
+      (same-truth (eqb (e .node) 0) (eqb (e .result) nil)
+      (λ t. eq-eqb (e .result) nil (r .node-nil (eqb-true (e .node) 0 t))) (λ t. eq-eqb (e .node) 0 (r .nil-node (eqb-true (e .result) nil t)))))
+      (le-leb (e .start) (e .end) (r .start)))
+      (le-leb (e .end) lastEnd (r .end))
+
+  -- a pop that gave no node gave NIL
+  not-full : Rule1 P e → (e .kind ≡ push → ⊥) → (e .result ≡ done → ⊥) → nil ≡ e .result
+  not-full r k d = let x : e .result ≡ full → ⊥ = λ z. k (r .full-push z) in omega (arith, r .result)
+
+  top-kind : Rule1 P e → (e .kind ≡ push → ⊥) → (e .kind ≡ bottomPop → ⊥) → topPop ≡ e .kind
+  top-kind r a b = omega (arith, r .kind-from, r .kind-to)
+
+  -- under rule 1 an entry's kind and result are those of what it did: `whatOf` never has to guess
+  pub what-right : Rule1 P e → (kindOf (what e) ≡ e .kind) × (resultOf (what e) ≡ e .result)
+  what-right r = by (eqb (e .kind) push) (eqb (e .kind) bottomPop) (eqb (e .result) done) refl refl refl
+    where
+      by : (s t u : Bool) → eqb (e .kind) push ≡ s → eqb (e .kind) bottomPop ≡ t → eqb (e .result) done ≡ u
+          → (kindOf (cond s (cond u Pushed Full) (cond t (cond u BottomNode BottomNil) (cond u TopNode TopNil))) ≡ e .kind)
+          × (resultOf (cond s (cond u Pushed Full) (cond t (cond u BottomNode BottomNil) (cond u TopNode TopNil))) ≡ e .result)
+      by true t true a b c = (sym (eqb-true (e .kind) push a), sym (eqb-true (e .result) done c))
+      by true t false a b c =
+          let k = eqb-true (e .kind) push a in
+          let x : e .result ≡ nil → ⊥ = λ z. r .nil-pop z k in
+          let y = eqb-false (e .result) done c in
+          (sym k, omega (arith, r .result))
+      by false true true a b c = (sym (eqb-true (e .kind) bottomPop b), sym (eqb-true (e .result) done c))
+      by false true false a b c = (sym (eqb-true (e .kind) bottomPop b), not-full r (eqb-false (e .kind) push a) (eqb-false (e .result) done c))
+      by false false true a b c = (top-kind r (eqb-false (e .kind) push a) (eqb-false (e .kind) bottomPop b), sym (eqb-true (e .result) done c))
+      by false false false a b c = (
+        top-kind r (eqb-false (e .kind) push a) (eqb-false (e .kind) bottomPop b),
+        not-full r (eqb-false (e .kind) push a)
+            (eqb-false (e .result) done c),
+      )
+
+module _ (d e : Entry) where
+  pub order : clash d e ≡ false → Rule2 d e
+  order h =
+      let g : (endsRise d e && startsAfter d e) ≡ true = not-f (endsRise d e && startsAfter d e) h in
+      record {
+        ends-rise = ltb-true (d .end) (e .end) (and-0 (endsRise d e) (startsAfter d e) g);
+        starts-after = λ p. ltb-true (d .end) (e .start)
+            (if-so (eqb (d .process) (e .process)) (ltb (d .end) (e .start)) (and-1 (endsRise d e) (startsAfter d e) g)
+            (eq-eqb (d .process) (e .process) p));
+      }
+
+  pub order-back : Rule2 d e → clash d e ≡ false
+  order-back r =
+      ap not (and-i (lt-ltb (d .end) (e .end) (r .ends-rise))
+      (so-if (eqb (d .process) (e .process)) (ltb (d .end) (e .start))
+      (λ p. lt-ltb (d .end) (e .start) (r .starts-after (eqb-true (d .process) (e .process) p)))))
+
+module _ (e : Entry) where
+  pub moment : momentRight e ≡ true → Rule3 e
+  moment h = by (bears e) refl h
+    where
+      by : (t : Bool) → bears e ≡ t → cond t (inCall e (e .moment)) (eqb (e .moment) noMoment) ≡ true → Rule3 e
+      by true b k = record {
+        from = λ s. leb-true (2 * e .start) (e .moment) (and-0 (leb (2 * e .start) (e .moment)) (leb (e .moment) (2 * e .end + 1)) k);
+        to = λ s. leb-true (e .moment) (2 * e .end + 1) (and-1 (leb (2 * e .start) (e .moment)) (leb (e .moment) (2 * e .end + 1)) k);
+        none = λ s. contra (bears e) b s;
+      }
+      by false b k = record {
+        from = λ s. contra (bears e) s b;
+        to = λ s. contra (bears e) s b;
+        none = λ s. eqb-true (e .moment) noMoment k;
+      }
+
+  pub moment-back : Rule3 e → momentRight e ≡ true
+  moment-back r = by (bears e) refl
+    where
+      by : (t : Bool) → bears e ≡ t → cond t (inCall e (e .moment)) (eqb (e .moment) noMoment) ≡ true
+      by true b = and-i (le-leb (2 * e .start) (e .moment) (r .from b)) (le-leb (e .moment) (2 * e .end + 1) (r .to b))
+      by false b = eq-eqb (e .moment) noMoment (r .none b)

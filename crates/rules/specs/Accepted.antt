@@ -1,0 +1,122 @@
+-- The rules read aloud: when a log is accepted. This is the statement to compare with document 01, "What the judge accepts";
+-- `judged-0` in proofs/AcceptedLaws.antt shows that the judge's number is 0 exactly for the bytes of such a log.
+use Prim.Native.Nat.{ℕ, suc, _+_, _*_, _≤_, _<_}
+use mathlib.Core.Path.{_≡_}
+use mathlib.Core.Bool.{true, false}
+use mathlib.Core.Logic.{_⊎_}
+use mathlib.Core.List.{List, [], _∷_, _++_}
+use lib.ListN.{length, getD}
+use Rattle.log.specs.declared.Entry.{Entry}
+use Rattle.log.specs.declared.What.{What}
+use Rattle.log.specs.declared.What.the-variants.{Pushed, Full, BottomNode, BottomNil, TopNode, TopNil}
+use Rattle.log.specs.Numbers.{push, bottomPop, topPop, nil, full, noMoment, what}
+use Rattle.log.specs.Decode.{firstEntry}
+use Rattle.log.specs.Encode.{Log, InRange, logBytes}
+use Rattle.rules.specs.Contents.{bears, before}
+use Rattle.rules.specs.Rules.{lastEnd, donePushes}
+
+-- Rule 1. Fields:
+pub record Rule1 (P : ℕ) (e : Entry) : Type 0 where
+  -- process and queue below P;
+  pub process : e .process < P
+  pub queue : e .queue < P
+  -- kind 1 to 3, result 0 to 2;
+  pub kind-from : push ≤ e .kind
+  pub kind-to : e .kind ≤ topPop
+  pub result : e .result ≤ full
+  -- a push or bottom pop on its own queue;
+  pub own : (e .kind ≡ push) ⊎ (e .kind ≡ bottomPop) → e .process ≡ e .queue
+  -- result 2 for a push only, 0 for pops only;
+  pub full-push : e .result ≡ full → e .kind ≡ push
+  pub nil-pop : e .result ≡ nil → e .kind ≡ push → ⊥
+  -- node 0 exactly for NIL;
+  pub node-nil : e .node ≡ 0 → e .result ≡ nil
+  pub nil-node : e .result ≡ nil → e .node ≡ 0
+  -- start ≤ end ≤ 32,766.
+  pub start : e .start ≤ e .end
+  pub end : e .end ≤ lastEnd
+
+-- Rule 2, of an entry d before e in the file.
+pub record Rule2 (d e : Entry) : Type 0 where
+  -- Ends rise;
+  pub ends-rise : d .end < e .end
+  -- a process's call starts after its previous call's end.
+  pub starts-after : d .process ≡ e .process → d .end < e .start
+
+-- Rule 3.
+pub record Rule3 (e : Entry) : Type 0 where
+  -- A moment stands where the list has one, from 2 × start to 2 × end + 1 (at most 65,533 by rule 1),
+  pub from : bears e ≡ true → 2 * e .start ≤ e .moment
+  pub to : bears e ≡ true → e .moment ≤ 2 * e .end + 1
+  -- and 65,535 stands elsewhere;
+  pub none : bears e ≡ false → e .moment ≡ noMoment
+
+-- all moments differ.
+abbrev pub Differ : Entry → Entry → Type 0
+Differ d e = bears d ≡ true → bears e ≡ true → d .moment ≡ e .moment → ⊥
+
+abbrev pub TopIs : ℕ → List ℕ → Type 0
+TopIs v c = (rest : List ℕ) × (c ≡ v ∷ rest)
+
+abbrev pub BottomIs : ℕ → List ℕ → Type 0
+BottomIs v c = (rest : List ℕ) × (c ≡ rest ++ (v ∷ []))
+
+module _ (f : ℕ → Entry) (n : ℕ) where
+  -- Rule 4, of an entry e that did w and finds its queue holding c, top first.
+  abbrev pub Rule4 : Entry → List ℕ → What → Type 0
+  -- a push adds a node that no earlier push on any queue added;
+  Rule4 e c Pushed = (k : ℕ) → k < n → what (f k) ≡ Pushed → f k .moment < e .moment → f k .node ≡ e .node → ⊥
+  Rule4 e c Full = Unit {0}
+  -- a bottom pop gives the bottom node, or NIL exactly when empty;
+  Rule4 e c BottomNode = BottomIs (e .node) c
+  Rule4 e c BottomNil = c ≡ []
+  -- a top pop gives the top node.
+  Rule4 e c TopNode = TopIs (e .node) c
+  Rule4 e c TopNil = Unit {0}
+
+  -- Rule 5: from moment 2 × start to 2 × end + 1, an instant at which the queue is empty (after all moments up to it),
+  pub record EmptyIn (e : Entry) : Type 0 where
+    pub instant : ℕ
+    pub from : 2 * e .start ≤ instant
+    pub to : instant ≤ 2 * e .end + 1
+    pub empty : before f n (e .queue) (suc instant) ≡ []
+
+  -- or a removal of the topmost node by another process: at the top, or at the bottom where it is the one node.
+  pub record RemovedIn (e : Entry) : Type 0 where
+    pub by : ℕ
+    pub below : by < n
+    pub queue : f by .queue ≡ e .queue
+    pub other : f by .process ≡ e .process → ⊥
+    pub from : 2 * e .start ≤ f by .moment
+    pub to : f by .moment ≤ 2 * e .end + 1
+    pub topmost : (what (f by) ≡ TopNode) ⊎ ((what (f by) ≡ BottomNode) × (length (before f n (e .queue) (f by .moment)) ≡ 1))
+
+  -- A log f of n entries, P processes and C slots is accepted:
+  pub record Accepted (P C : ℕ) : Type 0 where
+    -- Rule 1. Fields,
+    pub rule1 : (j : ℕ) → j < n → Rule1 P (f j)
+    -- Rule 2, of every entry and every later one,
+    pub rule2 : (i j : ℕ) → i < j → j < n → Rule2 (f i) (f j)
+    -- Rule 3. Moments, and that all of them differ,
+    pub rule3 : (j : ℕ) → j < n → Rule3 (f j)
+    pub differ : (i j : ℕ) → i < j → j < n → Differ (f i) (f j)
+    -- Rule 4, just before each call's moment,
+    pub rule4 : (j : ℕ) → j < n → Rule4 (f j) (before f n (f j .queue) (f j .moment)) (what (f j))
+    -- Rule 5. A top pop with NIL has its cause,
+    pub rule5 : (j : ℕ) → j < n → what (f j) ≡ TopNil → EmptyIn (f j) ⊎ RemovedIn (f j)
+    -- Rule 6. FULL has at least C done pushes on that queue with moments below 2 × start.
+    pub rule6 : (j : ℕ) → j < n → what (f j) ≡ Full → C ≤ donePushes f n (f j .queue) (2 * f j .start)
+
+-- entry i of a list; past the end, as bytes past the end read, all numbers are 0
+abbrev pub entryOf : List Entry → ℕ → Entry
+entryOf es i = getD es i (firstEntry [])
+
+abbrev pub AcceptedLog : Log → Type 0
+AcceptedLog l = Accepted (entryOf (l .entries)) (length (l .entries)) (l .P) (l .C)
+
+-- bytes that are those of an accepted log
+pub record AcceptedBytes (bytes : List ℕ) : Type 0 where
+  pub log : Log
+  pub in-range : InRange log
+  pub accepted : AcceptedLog log
+  pub is : bytes ≡ logBytes log

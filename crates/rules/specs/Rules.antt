@@ -1,0 +1,158 @@
+-- Document 01, "What the judge accepts": for each rule by itself, when entry j of a log breaks it. The log is f, from an
+-- entry's index to the entry, with n entries, P processes and C slots. A rule is asked only of logs that keep the earlier ones.
+use Prim.Native.Nat.{ℕ, suc, _+_, _*_}
+use mathlib.Core.Bool.{Bool, true, false, cond, _&&_, _||_, not, Bool·beq}
+use mathlib.Core.List.{List, [], _∷_}
+use lib.ListN.{length}
+use lib.Dec.{eqb, ltb, leb}
+use Rattle.log.specs.declared.Entry.{Entry}
+use Rattle.log.specs.declared.What.{What}
+use Rattle.log.specs.declared.What.the-variants.{Pushed, Full, BottomNode, BottomNil, TopNode, TopNil}
+use Rattle.log.specs.Numbers.{push, bottomPop, topPop, nil, full, noMoment, what, same}
+use Rattle.rules.specs.Search.{any, anyFrom, count}
+use Rattle.rules.specs.Contents.{bears, on, before}
+
+-- RULE 1. Fields: process and queue below P; kind 1 to 3, result 0 to 2; a push or bottom pop on its own queue; result 2
+-- for a push only, 0 for pops only; node 0 exactly for NIL; start ≤ end ≤ 32,766.
+abbrev pub lastEnd : ℕ
+lastEnd = 32766
+
+-- kind 1 to 3
+abbrev pub kindKnown : Entry → Bool
+kindKnown e = leb push (e .kind) && leb (e .kind) topPop
+
+-- a push or bottom pop on its own queue
+abbrev pub onOwnQueue : Entry → Bool
+onOwnQueue e = not (eqb (e .kind) push || eqb (e .kind) bottomPop) || eqb (e .process) (e .queue)
+
+-- result 2 for a push only
+abbrev pub fullForPush : Entry → Bool
+fullForPush e = not (eqb (e .result) full) || eqb (e .kind) push
+
+-- 0 for pops only
+abbrev pub nilForPop : Entry → Bool
+nilForPop e = not (eqb (e .result) nil) || not (eqb (e .kind) push)
+
+-- node 0 exactly for NIL
+abbrev pub nodeUnlessNil : Entry → Bool
+nodeUnlessNil e = Bool·beq (eqb (e .node) 0) (eqb (e .result) nil)
+
+abbrev pub keeps1 : ℕ → Entry → Bool
+keeps1 P e =
+    ltb (e .process) P && ltb (e .queue) P
+    && kindKnown e && leb (e .result) full
+    && onOwnQueue e
+    && fullForPush e && nilForPop e
+    && nodeUnlessNil e
+    && leb (e .start) (e .end) && leb (e .end) lastEnd
+
+abbrev pub breaks1 : (ℕ → Entry) → ℕ → ℕ → Bool
+breaks1 f P j = not (keeps1 P (f j))
+
+-- RULE 2. Ends rise; a process's call starts after its previous call's end. Entry d stands before e in the file.
+-- ends rise
+abbrev pub endsRise : Entry → Entry → Bool
+endsRise d e = ltb (d .end) (e .end)
+
+-- a process's call starts after its previous call's end; where ends rise, the previous one's is the last of all earlier ones
+abbrev pub startsAfter : Entry → Entry → Bool
+startsAfter d e = not (eqb (d .process) (e .process)) || ltb (d .end) (e .start)
+
+abbrev pub clash : Entry → Entry → Bool
+clash d e = not (endsRise d e && startsAfter d e)
+
+-- of entries that clash the later in the file
+abbrev pub breaks2 : (ℕ → Entry) → ℕ → Bool
+breaks2 f j = any (λ i. clash (f i) (f j)) j
+
+-- RULE 3. A moment stands exactly where the list above has one, and 65,535 elsewhere; each moment lies from 2 × start to
+-- 2 × end + 1, and all moments differ.
+abbrev pub inCall : Entry → ℕ → Bool
+inCall e m = leb (2 * e .start) m && leb m (2 * e .end + 1)
+
+-- a moment in the call's time is at most 65,533 by rule 1, so that it never looks like none
+abbrev pub momentRight : Entry → Bool
+momentRight e = cond (bears e) (inCall e (e .moment)) (eqb (e .moment) noMoment)
+
+-- d bears the moment m
+abbrev pub bearsAt : ℕ → Entry → Bool
+bearsAt m d = bears d && eqb (d .moment) m
+
+-- of entries with the same moment the later in the file
+abbrev pub breaks3 : (ℕ → Entry) → ℕ → Bool
+breaks3 f j = not (momentRight (f j)) || bears (f j) && any (λ i. bearsAt (f j .moment) (f i)) j
+
+-- RULE 4. Calls with a moment, taken by rising moment from empty queues, are lawful: a push adds at the bottom a node that
+-- no earlier push on any queue added; a bottom pop gives the bottom node, or NIL exactly when empty; a top pop gives the
+-- top node.
+abbrev pub isEmpty : List ℕ → Bool
+isEmpty [] = true
+isEmpty (x ∷ c) = false
+
+abbrev pub topIs : ℕ → List ℕ → Bool
+topIs v [] = false
+topIs v (x ∷ c) = eqb x v
+
+abbrev pub bottomIs : ℕ → List ℕ → Bool
+bottomIs v [] = false
+bottomIs v (x ∷ []) = eqb x v
+bottomIs v (x ∷ y ∷ c) = bottomIs v (y ∷ c)
+
+-- d is an earlier push of e's node
+abbrev pub addedBefore : Entry → Entry → Bool
+addedBefore e d = same Pushed (what d) && eqb (d .node) (e .node) && ltb (d .moment) (e .moment)
+
+abbrev pub fresh : (ℕ → Entry) → ℕ → Entry → Bool
+fresh f n e = not (any (λ k. addedBefore e (f k)) n)
+
+-- the call gives or adds v, and its queue holds c, top first
+abbrev pub lawful : Bool → What → ℕ → List ℕ → Bool
+lawful new Pushed v c = new
+lawful new Full v c = true
+lawful new BottomNode v c = bottomIs v c
+lawful new BottomNil v c = isEmpty c
+lawful new TopNode v c = topIs v c
+lawful new TopNil v c = true
+
+abbrev pub lawfulAt : (ℕ → Entry) → ℕ → Entry → Bool
+lawfulAt f n e = lawful (fresh f n e) (what e) (e .node) (before f n (e .queue) (e .moment))
+
+abbrev pub breaks4 : (ℕ → Entry) → ℕ → ℕ → Bool
+breaks4 f n j = bears (f j) && not (lawfulAt f n (f j))
+
+-- RULE 5. A top pop with NIL has, from moment 2 × start to 2 × end + 1, an instant at which its queue is empty (after all
+-- moments up to it), or a removal of the topmost node by another process.
+-- the queue is empty at an instant x from a to b
+abbrev pub emptyWithin : (ℕ → Entry) → ℕ → ℕ → ℕ → ℕ → Bool
+emptyWithin f n q a b = anyFrom (λ x. isEmpty (before f n q (suc x))) a b
+
+-- a removal of the topmost node from c: by a pop at the top, or at the bottom where there is one node
+abbrev pub takesTopmost : What → List ℕ → Bool
+takesTopmost Pushed c = false
+takesTopmost Full c = false
+takesTopmost BottomNode c = eqb (length c) 1
+takesTopmost BottomNil c = false
+takesTopmost TopNode c = true
+takesTopmost TopNil c = false
+
+abbrev pub removes : (ℕ → Entry) → ℕ → Entry → Entry → Bool
+removes f n e d =
+    on (e .queue) d && inCall e (d .moment) && not (eqb (d .process) (e .process))
+    && takesTopmost (what d) (before f n (e .queue) (d .moment))
+
+abbrev pub hasCause : (ℕ → Entry) → ℕ → Entry → Bool
+hasCause f n e = emptyWithin f n (e .queue) (2 * e .start) (2 * e .end + 1) || any (λ k. removes f n e (f k)) n
+
+abbrev pub breaks5 : (ℕ → Entry) → ℕ → ℕ → Bool
+breaks5 f n j = same TopNil (what (f j)) && not (hasCause f n (f j))
+
+-- RULE 6. FULL has at least C done pushes on that queue with moments below 2 × start.
+abbrev pub pushedOn : ℕ → ℕ → Entry → Bool
+pushedOn q m d = same Pushed (what d) && eqb (d .queue) q && ltb (d .moment) m
+
+-- how many done pushes on queue q have moments below m
+abbrev pub donePushes : (ℕ → Entry) → ℕ → ℕ → ℕ → ℕ
+donePushes f n q m = count (λ k. pushedOn q m (f k)) n
+
+abbrev pub breaks6 : (ℕ → Entry) → ℕ → ℕ → ℕ → Bool
+breaks6 f n C j = same Full (what (f j)) && ltb (donePushes f n (f j .queue) (2 * f j .start)) C
