@@ -142,16 +142,3 @@ pub fn run<'a>(
     let written = run_len(file, buffer, report, table);
     &mut buffer[..written]
 }
-
-// run_len, for a host in C.
-#[no_mangle]
-pub extern "C" fn scarpgoblet_run(
-    file: &[u8],
-    log: &mut [u8],
-    report: &mut [u16; 4],
-    table: &mut [u16; 536],
-) -> usize
-    ensures { λ r. ⌜ Ran (now (file .entry)) (now (log .entry)) r (now (log .exit)) (now (report .exit)) (now (table .exit)) ⌝ }
-{
-    run_len(file, log, report, table)
-}

@@ -93,22 +93,3 @@ pub fn judge(log: &[u8]) -> Verdict
     }
     rules(log, n, p, slots)
 }
-
-// For a host program: the judge's number, and the entry at fault.
-#[no_mangle]
-pub extern "C" fn scarpgoblet_judge(log: &[u8]) -> u32
-    ensures { λ r. ⌜ r ≡ judgeOf (now (log .entry)) .number ⌝ }
-{
-    let v = judge(log);
-    let number = v.number;
-    number as u32
-}
-
-#[no_mangle]
-pub extern "C" fn scarpgoblet_judge_entry(log: &[u8]) -> u32
-    ensures { λ r. ⌜ r ≡ judgeOf (now (log .entry)) .entry ⌝ }
-{
-    let v = judge(log);
-    let entry = v.entry;
-    entry as u32
-}

@@ -4,8 +4,8 @@ use Prim.Native.Nat.{_≤_}
 use borrow.Author.Needs.{needs}
 use lib.ListN.{length}
 use lib.Seq.{length-take-le}
-use Rattle.scarpgoblet.proofs.at_desk.answer_line.Statement.{statement}
-use Rattle.scarpgoblet.proofs.at_desk.answer_line.Tie as tie
+use Rattle.program.proofs.at_desk.answer_line.Statement.{statement}
+use Rattle.program.proofs.at_desk.answer_line.Tie as tie
 
 slice-aggregate-read-line : tie.Need-slice-aggregate-read-line
 slice-aggregate-read-line c = search needs

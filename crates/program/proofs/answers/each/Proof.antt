@@ -2,8 +2,8 @@
 use Prim.Native.Nat.{_-_}
 use borrow.Author.Needs.{needs}
 use lib.ListN.{length}
-use Rattle.scarpgoblet.proofs.answers.each.Statement.{statement}
-use Rattle.scarpgoblet.proofs.answers.each.Tie as tie
+use Rattle.program.proofs.answers.each.Statement.{statement}
+use Rattle.program.proofs.answers.each.Tie as tie
 
 abbrev Inv-loop : tie.InvT-loop
 Inv-loop numbers i₀ space i = Unit {0}

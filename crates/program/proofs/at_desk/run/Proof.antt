@@ -1,7 +1,7 @@
 -- The measure is the number of turns that are left.
 use borrow.Author.Needs.{needs}
-use Rattle.scarpgoblet.proofs.at_desk.run.Statement.{statement}
-use Rattle.scarpgoblet.proofs.at_desk.run.Tie as tie
+use Rattle.program.proofs.at_desk.run.Statement.{statement}
+use Rattle.program.proofs.at_desk.run.Tie as tie
 
 abbrev Inv-loop : tie.InvT-loop
 Inv-loop turns₀ turns = Unit {0}

@@ -5,8 +5,8 @@ use borrow.Author.Needs.{needs}
 use lib.ListN.{length, take}
 use lib.Seq.{length-take-le}
 use Rattle.desk.specs.LineLaws.{size-most}
-use Rattle.scarpgoblet.proofs.at_desk.opening.Statement.{statement}
-use Rattle.scarpgoblet.proofs.at_desk.opening.Tie as tie
+use Rattle.program.proofs.at_desk.opening.Statement.{statement}
+use Rattle.program.proofs.at_desk.opening.Tie as tie
 
 slice-aggregate-read-line : tie.Need-slice-aggregate-read-line
 slice-aggregate-read-line c = search needs

@@ -1,8 +1,8 @@
 -- Nothing has to hold from turn to turn: an entry is read at any place, and the measure is the number of entries that are left.
 use Prim.Native.Nat.{_-_}
 use borrow.Author.Needs.{needs}
-use Rattle.scarpgoblet.proofs.print.entries.Statement.{statement}
-use Rattle.scarpgoblet.proofs.print.entries.Tie as tie
+use Rattle.program.proofs.print.entries.Statement.{statement}
+use Rattle.program.proofs.print.entries.Tie as tie
 
 abbrev Inv-loop : tie.InvT-loop
 Inv-loop log count i₀ i = Unit {0}

@@ -2,8 +2,8 @@
 use mathlib.Core.Path.{_≡_}
 use borrow.Author.Needs.{needs}
 use lib.ListN.{length}
-use Rattle.scarpgoblet.proofs.at_desk.read_line.Statement.{statement}
-use Rattle.scarpgoblet.proofs.at_desk.read_line.Tie as tie
+use Rattle.program.proofs.at_desk.read_line.Statement.{statement}
+use Rattle.program.proofs.at_desk.read_line.Tie as tie
 
 abbrev Inv-loop : tie.InvT-loop
 Inv-loop buffer₀ n₀ turns₀ buffer n turns = length buffer ≡ length buffer₀

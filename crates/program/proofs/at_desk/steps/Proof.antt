@@ -3,8 +3,8 @@ use mathlib.Core.Path.{sym}
 use borrow.Author.Needs.{needs}
 use lib.ListN.{replicate}
 use lib.Seq.{length-take-le}
-use Rattle.scarpgoblet.proofs.at_desk.steps.Statement.{statement}
-use Rattle.scarpgoblet.proofs.at_desk.steps.Tie as tie
+use Rattle.program.proofs.at_desk.steps.Statement.{statement}
+use Rattle.program.proofs.at_desk.steps.Tie as tie
 
 abbrev Inv-loop : tie.InvT-loop
 Inv-loop width size used slots₀ word₀ turns₀ slots word turns = Unit {0}
