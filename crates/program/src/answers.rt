@@ -1,6 +1,7 @@
 // What the desk prints: after a step a line with the word, the slots, and the next stage or the result; of a line that is not run, why.
+use crate::print::each;
+use crate::print::number;
 use crate::print::text;
-use crate::print::two_bytes;
 use desk::SizesWhy;
 use desk::Why;
 use queue::Stage;
@@ -11,61 +12,66 @@ pub(crate) fn end_line() {
     text(b"\n");
 }
 
-fn each(numbers: &[u16]) {
-    let mut i: usize = 0;
-    while i < numbers.len() {
-        two_bytes(b" ", numbers[i]);
-        i = i + 1;
-    }
-}
-
 // Bottom, top, tag, and the slots.
 pub(crate) fn queue(word: Word, slots: &[u16]) {
-    two_bytes(b"word ", word.bottom);
-    two_bytes(b" ", word.top);
-    two_bytes(b" ", word.tag);
+    text(b"word");
+    each(&[word.bottom, word.top, word.tag]);
     text(b" slots");
     each(slots);
 }
 
-fn one(name: &[u8], a: u16) {
-    text(name);
-    two_bytes(b" ", a);
+// The name of a row of the table, two letters but for row 0.
+fn name(row: u8) {
+    if row == 0 {
+        text(b"idle");
+        return;
+    }
+    let names = b"..P1P2P3T1T2T3T4B1B2B3B4B5B6B7";
+    let at = 2 * (row as usize);
+    text(&[base::byte_at(names, at), base::byte_at(names, at + 1)]);
 }
 
-fn two(name: &[u8], a: u16, b: u16) {
-    one(name, a);
-    two_bytes(b" ", b);
-}
-
-fn four(name: &[u8], a: u16, b: u16, c: u16, d: u16) {
-    two(name, a, b);
-    two_bytes(b" ", c);
-    two_bytes(b" ", d);
+fn numbers(of: Stage) {
+    match of {
+        Stage::Idle | Stage::T1 | Stage::B1 => {}
+        Stage::P1 { node: a } | Stage::P3 { b: a } | Stage::B2 { b: a } | Stage::B3 { b: a } => {
+            each(&[a])
+        }
+        Stage::P2 { node: a, b } | Stage::T2 { t: a, g: b } | Stage::B4 { b: a, x: b } => {
+            each(&[a, b])
+        }
+        Stage::T3 { t, g, b } => each(&[t, g, b]),
+        Stage::T4 {
+            t: a,
+            g: b,
+            b: c,
+            x: d,
+        }
+        | Stage::B5 {
+            b: a,
+            x: b,
+            t: c,
+            g: d,
+        }
+        | Stage::B6 {
+            b: a,
+            x: b,
+            t: c,
+            g: d,
+        }
+        | Stage::B7 {
+            b: a,
+            x: b,
+            t: c,
+            g: d,
+        } => each(&[a, b, c, d]),
+    }
 }
 
 // A stage as it is typed.
 fn stage(of: Stage) {
-    match of {
-        Stage::Idle => text(b"idle"),
-        Stage::P1 { node } => one(b"P1", node),
-        Stage::P2 { node, b } => two(b"P2", node, b),
-        Stage::P3 { b } => one(b"P3", b),
-        Stage::T1 => text(b"T1"),
-        Stage::T2 { t, g } => two(b"T2", t, g),
-        Stage::T3 { t, g, b } => {
-            two(b"T3", t, g);
-            two_bytes(b" ", b)
-        }
-        Stage::T4 { t, g, b, x } => four(b"T4", t, g, b, x),
-        Stage::B1 => text(b"B1"),
-        Stage::B2 { b } => one(b"B2", b),
-        Stage::B3 { b } => one(b"B3", b),
-        Stage::B4 { b, x } => two(b"B4", b, x),
-        Stage::B5 { b, x, t, g } => four(b"B5", b, x, t, g),
-        Stage::B6 { b, x, t, g } => four(b"B6", b, x, t, g),
-        Stage::B7 { b, x, t, g } => four(b"B7", b, x, t, g),
-    }
+    name(queue::stages::row_number(of));
+    numbers(of);
 }
 
 // The next stage, or the result of the call.
@@ -76,7 +82,7 @@ pub(crate) fn answer(of: Answer) {
             stage(next);
         }
         Answer::Done => text(b" done"),
-        Answer::Node(node) => two_bytes(b" node ", node),
+        Answer::Node(node) => number(b" node ", node),
         Answer::Nil => text(b" nil"),
         Answer::Full => text(b" full"),
         Answer::Refused(lent) => {
@@ -87,25 +93,41 @@ pub(crate) fn answer(of: Answer) {
     end_line();
 }
 
-// The numbers that a stage takes.
-fn wanted(of: Stage) {
-    match of {
-        Stage::Idle => text(b"idle takes no numbers\n"),
-        Stage::P1 { .. } => text(b"P1 takes 1 number: node\n"),
-        Stage::P2 { .. } => text(b"P2 takes 2 numbers: node b\n"),
-        Stage::P3 { .. } => text(b"P3 takes 1 number: b\n"),
-        Stage::T1 => text(b"T1 takes no numbers\n"),
-        Stage::T2 { .. } => text(b"T2 takes 2 numbers: t g\n"),
-        Stage::T3 { .. } => text(b"T3 takes 3 numbers: t g b\n"),
-        Stage::T4 { .. } => text(b"T4 takes 4 numbers: t g b x\n"),
-        Stage::B1 => text(b"B1 takes no numbers\n"),
-        Stage::B2 { .. } => text(b"B2 takes 1 number: b\n"),
-        Stage::B3 { .. } => text(b"B3 takes 1 number: b\n"),
-        Stage::B4 { .. } => text(b"B4 takes 2 numbers: b x\n"),
-        Stage::B5 { .. } => text(b"B5 takes 4 numbers: b x t g\n"),
-        Stage::B6 { .. } => text(b"B6 takes 4 numbers: b x t g\n"),
-        Stage::B7 { .. } => text(b"B7 takes 4 numbers: b x t g\n"),
+// The letter of a number, n for the node and blank for none.
+fn letter(of: u8) {
+    if of == b'n' {
+        text(b" node");
+    } else if of != b' ' {
+        text(&[b' ', of]);
     }
+}
+
+// How many numbers a stage takes, by its digit.
+fn takes(digit: u8) {
+    text(b" takes ");
+    if digit == b'0' {
+        text(b"no numbers");
+    } else if digit == b'1' {
+        text(b"1 number:");
+    } else {
+        text(&[digit]);
+        text(b" numbers:");
+    }
+}
+
+// The numbers that a stage takes: how many, and the letter of each.
+fn wanted(of: Stage) {
+    let row = queue::stages::row_number(of);
+    name(row);
+    let place = row as usize;
+    takes(base::byte_at(b"012102340112444", place));
+    let letters = b"    n   nb  b       tg  tgb tgbx    b   b   bx  bxtgbxtgbxtg";
+    let at = 4 * place;
+    letter(base::byte_at(letters, at));
+    letter(base::byte_at(letters, at + 1));
+    letter(base::byte_at(letters, at + 2));
+    letter(base::byte_at(letters, at + 3));
+    end_line();
 }
 
 pub(crate) fn not_run(why: Why) {

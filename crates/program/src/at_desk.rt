@@ -1,9 +1,9 @@
 // The desk: one queue stepped by hand. Each line is answered before the next is read.
 ghost use Prim.Native.Nat.{_≤_};
 use crate::answers;
+use crate::input;
 use desk::Line;
 use desk::Sizes;
-use libc::STDIN_FILENO;
 use queue::Stage;
 use queue::Word;
 
@@ -15,8 +15,9 @@ const LONG: usize = 257;
 
 const END: usize = 258;
 
-// The next byte of standard input, if there is one more.
+// The next byte of standard input, if there is one more. Of a read that failed, `input::read` has said why.
 struct Got {
+    failed: bool,
     more: bool,
     byte: u8,
 }
@@ -27,12 +28,12 @@ struct Turn {
     word: Word,
 }
 
-// A read that fails ends the input.
 fn get() -> Got {
     let mut one = [0u8; 1];
-    let n = io::read_full(STDIN_FILENO, &mut one);
+    let got = input::read(&mut one);
     Got {
-        more: n != 0,
+        failed: got.failed,
+        more: got.length != 0,
         byte: one[0],
     }
 }
@@ -46,12 +47,16 @@ fn put(buffer: &mut [u8], n: usize, byte: u8) -> usize {
     LONG
 }
 
-// Reads a line and no byte of the next, and answers its length without the line end, which the last line may lack.
+// Reads a line and no byte of the next, and answers its length without the line end, which the last line may lack. What was read of a line
+// before a read that failed is no line.
 fn read_line(buffer: &mut [u8]) -> usize {
     let mut n: usize = 0;
     let mut turns = u64::MAX; // a proved loop has to end, and nothing says that a line does
     while turns > 0 {
         let got = get();
+        if got.failed {
+            return END;
+        }
         if !got.more {
             return if n == 0 { END } else { n };
         }

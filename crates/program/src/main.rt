@@ -1,11 +1,11 @@
 // The program: with no argument it runs the run file on standard input and prints its log, its counts and the judge's number; with
 // `judge` it judges the log on standard input; with `desk` it steps a queue by the lines on standard input.
 use libc::STDERR_FILENO;
-use libc::STDIN_FILENO;
 use libc::STDOUT_FILENO;
 
 mod answers; // what the desk prints
 mod at_desk; // a queue stepped by hand
+mod input; // standard input
 mod print; // lines of numbers
 
 // One byte more than the longest good run file, which has 3 + (1 + 8) + (2 + 3 × 256) + (2 + 4,096) = 4,880. The rest of a longer file is not
@@ -21,40 +21,57 @@ const LOG_BYTES: usize = 3077;
 // if that is not given there are at most 256 entries, so that a byte stands after them, which is 13.
 const JUDGED_BYTES: usize = 3078;
 
-// Whether standard input can be read, which a read of no bytes tells: a folder and a closed one cannot, and are no empty file.
-fn can_read() -> bool {
-    let mut none = [0u8; 0];
-    let got = libc::read(STDIN_FILENO, &mut none);
-    if got < 0 {
-        os::fail(b"scarpgoblet: standard input");
-        return false;
+// The log, its counts and the judge's number.
+fn print_run(log: &[u8], entries: u16, steps: u16, gone: u16) {
+    let verdict = judge::judge(log);
+    print::entries(log, entries);
+    print::counts(entries, steps, gone, verdict.number);
+}
+
+fn run_file(file: &[u8]) {
+    let mut buffer = [0u8; LOG_BYTES];
+    let mut report = [0u16; 4];
+    let mut table = [0u16; 536];
+    let log = bench::run(file, &mut buffer, &mut report, &mut table);
+    if report[0] != 0 {
+        print::refused(report[0]);
+        return;
     }
-    true
+    print_run(log, report[1], report[2], report[3]);
 }
 
 // Runs the file on standard input.
 fn run() {
     let mut file = [0u8; FILE_BYTES];
-    let n = io::read_full(STDIN_FILENO, &mut file);
-    let mut buffer = [0u8; LOG_BYTES];
-    let mut report = [0u16; 4];
-    let mut table = [0u16; 536];
-    let log = bench::run(&file[..n], &mut buffer, &mut report, &mut table);
-    if report[0] != 0 {
-        print::refused(report[0]);
-        return;
+    let input = input::read(&mut file);
+    let n = input.length;
+    if !input.failed {
+        run_file(&file[..n]);
     }
-    let verdict = judge::judge(log);
-    print::entries(log, report[1]);
-    print::counts(report[1], report[2], report[3], verdict.number);
 }
 
 // Judges the log on standard input.
 fn judge() {
     let mut log = [0u8; JUDGED_BYTES];
-    let n = io::read_full(STDIN_FILENO, &mut log);
-    let verdict = judge::judge(&log[..n]);
-    print::verdict(verdict.number, verdict.entry);
+    let input = input::read(&mut log);
+    let n = input.length;
+    if !input.failed {
+        let verdict = judge::judge(&log[..n]);
+        print::verdict(verdict.number, verdict.entry);
+    }
+}
+
+// Does what one word asks.
+fn asked(word: &[u8]) {
+    if check::same(word, b"judge") {
+        judge();
+    } else if check::same(word, b"desk") {
+        at_desk::run();
+    } else if check::same(word, b"help") {
+        print::usage(STDOUT_FILENO);
+    } else {
+        print::usage(STDERR_FILENO);
+    }
 }
 
 fn main() {
@@ -62,19 +79,9 @@ fn main() {
     let n = os::arg(1, &mut word);
     let words = os::arg_count();
     if words <= 1 {
-        if can_read() {
-            run();
-        }
-    } else if words == 2 && check::same(&word[..n], b"judge") {
-        if can_read() {
-            judge();
-        }
-    } else if words == 2 && check::same(&word[..n], b"desk") {
-        if can_read() {
-            at_desk::run();
-        }
-    } else if words == 2 && check::same(&word[..n], b"help") {
-        print::usage(STDOUT_FILENO);
+        run();
+    } else if words == 2 {
+        asked(&word[..n]);
     } else {
         print::usage(STDERR_FILENO);
     }

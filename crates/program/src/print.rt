@@ -7,29 +7,34 @@ pub(crate) fn text(bytes: &[u8]) {
 }
 
 // A word, and a number after it.
-fn number(word: &[u8], n: u64) {
+pub(crate) fn number(word: &[u8], n: u16) {
     text(word);
-    io::print_decimal(STDOUT_FILENO, n);
+    io::print_decimal(STDOUT_FILENO, n as u64);
 }
 
-fn byte(word: &[u8], n: u8) {
-    number(word, n as u64);
-}
-
-pub(crate) fn two_bytes(word: &[u8], n: u16) {
-    number(word, n as u64);
+// Each number after a blank.
+pub(crate) fn each(numbers: &[u16]) {
+    let mut i: usize = 0;
+    while i < numbers.len() {
+        number(b" ", numbers[i]);
+        i = i + 1;
+    }
 }
 
 // Process, queue, kind, result, node, start, end, moment.
 fn entry(of: Entry) {
-    byte(b"", of.process);
-    byte(b" ", of.queue);
-    byte(b" ", of.kind);
-    byte(b" ", of.result);
-    two_bytes(b" ", of.node);
-    two_bytes(b" ", of.start);
-    two_bytes(b" ", of.end);
-    two_bytes(b" ", of.moment);
+    number(b"", of.process as u16);
+    each(
+        &[
+            of.queue as u16,
+            of.kind as u16,
+            of.result as u16,
+            of.node,
+            of.start,
+            of.end,
+            of.moment,
+        ],
+    );
     text(b"\n");
 }
 
@@ -43,21 +48,21 @@ pub(crate) fn entries(log: &[u8], count: u16) {
 }
 
 pub(crate) fn counts(entries: u16, steps: u16, gone: u16, verdict: u8) {
-    two_bytes(b"entries ", entries);
-    two_bytes(b" steps ", steps);
-    two_bytes(b" gone-round ", gone);
-    byte(b" judge ", verdict);
+    number(b"entries ", entries);
+    number(b" steps ", steps);
+    number(b" gone-round ", gone);
+    number(b" judge ", verdict as u16);
     text(b"\n");
 }
 
-pub(crate) fn refused(number: u16) {
-    two_bytes(b"refused ", number);
+pub(crate) fn refused(n: u16) {
+    number(b"refused ", n);
     text(b"\n");
 }
 
-pub(crate) fn verdict(number: u8, at: u16) {
-    byte(b"judge ", number);
-    two_bytes(b" entry ", at);
+pub(crate) fn verdict(n: u8, at: u16) {
+    number(b"judge ", n as u16);
+    number(b" entry ", at);
     text(b"\n");
 }
 
@@ -65,15 +70,10 @@ pub(crate) fn verdict(number: u8, at: u16) {
 pub(crate) fn usage(fd: i32) {
     io::write_all(
         fd,
-        b"usage: scarpgoblet         runs the run file on standard input\n",
+        b"usage: scarpgoblet         runs the run file on standard input\n       scarpgoblet judge   judges the log on standard input\n",
     );
     io::write_all(
         fd,
-        b"       scarpgoblet judge   judges the log on standard input\n",
+        b"       scarpgoblet desk    steps a queue by the lines on standard input\n       scarpgoblet help    prints this\n",
     );
-    io::write_all(
-        fd,
-        b"       scarpgoblet desk    steps a queue by the lines on standard input\n",
-    );
-    io::write_all(fd, b"       scarpgoblet help    prints this\n");
 }

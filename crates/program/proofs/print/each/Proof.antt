@@ -2,8 +2,8 @@
 use Prim.Native.Nat.{_-_}
 use borrow.Author.Needs.{needs}
 use lib.ListN.{length}
-use Rattle.program.proofs.answers.each.Statement.{statement}
-use Rattle.program.proofs.answers.each.Tie as tie
+use Rattle.program.proofs.print.each.Statement.{statement}
+use Rattle.program.proofs.print.each.Tie as tie
 
 abbrev Inv-loop : tie.InvT-loop
 Inv-loop numbers i₀ space i = Unit {0}
@@ -14,17 +14,17 @@ abbrev μ-loop : tie.MeasureT-loop
 loop-holds : tie.Need-loop-holds Inv-loop μ-loop
 loop-holds c = tt
 
-slice-aggregate-two-bytes : tie.Need-slice-aggregate-two-bytes Inv-loop μ-loop
-slice-aggregate-two-bytes c = search needs
+slice-aggregate-number : tie.Need-slice-aggregate-number Inv-loop μ-loop
+slice-aggregate-number c = search needs
 
-mul-two-bytes : tie.Need-mul-two-bytes Inv-loop μ-loop
-mul-two-bytes c = search needs
+mul-number : tie.Need-mul-number Inv-loop μ-loop
+mul-number c = search needs
 
-shared-slice-read-two-bytes : tie.Need-shared-slice-read-two-bytes Inv-loop μ-loop
-shared-slice-read-two-bytes c = search needs
+shared-slice-read-number : tie.Need-shared-slice-read-number Inv-loop μ-loop
+shared-slice-read-number c = search needs
 
-two-bytes-requires : tie.Need-two-bytes-requires Inv-loop μ-loop
-two-bytes-requires c κs = search needs
+number-requires : tie.Need-number-requires Inv-loop μ-loop
+number-requires c κs = search needs
 
 add-i : tie.Need-add-i Inv-loop μ-loop
 add-i c = search needs
@@ -45,10 +45,10 @@ each-spec =
     Inv-loop
     μ-loop
     loop-holds
-    slice-aggregate-two-bytes
-    mul-two-bytes
-    shared-slice-read-two-bytes
-    two-bytes-requires
+    slice-aggregate-number
+    mul-number
+    shared-slice-read-number
+    number-requires
     add-i
     loop-less
     loop-again
