@@ -14,10 +14,10 @@ pub(crate) fn number(word: &[u8], n: u16) {
 
 // Each number after a blank.
 pub(crate) fn each(numbers: &[u16]) {
-    let mut i: usize = 0;
-    while i < numbers.len() {
-        number(b" ", numbers[i]);
-        i = i + 1;
+    let mut at: usize = 0;
+    while at < numbers.len() {
+        number(b" ", numbers[at]);
+        at = at + 1;
     }
 }
 

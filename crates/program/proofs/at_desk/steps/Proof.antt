@@ -18,32 +18,11 @@ array-borrow-prefix-all c = c .pre
 slice-aggregate-slots : tie.Need-slice-aggregate-slots Inv-loop μ-loop
 slice-aggregate-slots c = sym (length-take-le (c .before .args .size) (replicate 64 0) (c .before .pre))
 
-queue-requires : tie.Need-queue-requires Inv-loop μ-loop
-queue-requires c κs = search needs
-
-end-line-requires : tie.Need-end-line-requires Inv-loop μ-loop
-end-line-requires c κs = search needs
-
 loop-holds : tie.Need-loop-holds Inv-loop μ-loop
 loop-holds c = tt
 
-answer-line-requires : tie.Need-answer-line-requires Inv-loop μ-loop
-answer-line-requires c κs = search needs
-
-returns : tie.Need-returns Inv-loop μ-loop
-returns c = search needs
-
-sub-turns : tie.Need-sub-turns Inv-loop μ-loop
-sub-turns c = search needs
-
-loop-less : tie.Need-loop-less Inv-loop μ-loop
-loop-less c = search needs
-
 loop-again : tie.Need-loop-again Inv-loop μ-loop
 loop-again c = tt
-
-returns-2 : tie.Need-returns-2 Inv-loop μ-loop
-returns-2 c = search needs
 
 pub steps-spec : {M : Type 1} → statement M
 steps-spec =
@@ -53,12 +32,12 @@ steps-spec =
     μ-loop
     array-borrow-prefix-all
     slice-aggregate-slots
-    queue-requires
-    end-line-requires
+    (λ c κs. search needs)
+    (λ c κs. search needs)
     loop-holds
-    answer-line-requires
-    returns
-    sub-turns
-    loop-less
+    (λ c κs. search needs)
+    (λ c. search needs)
+    (λ c. search needs)
+    (λ c. search needs)
     loop-again
-    returns-2)
+    (λ c. search needs))
