@@ -1,6 +1,6 @@
-// Tries the cases on standard input, a line each, and prints a line for each. The stored output was written from document 01 by hand. A case is
-// a letter, a name, a colon and bytes: `r` runs them as a run file, `f` only reads them as one, and `j` judges them as a log. Among the bytes
-// `=41` is the length of the buffer for the log, which is that of the longest log where nothing is said, and `+4096` that many bytes 0.
+// Tries the cases on standard input, a line each, and prints a line for each. A case is a letter, a name, a colon and bytes: `r` runs them as a
+// run file, `f` only reads them as one, and `j` judges them as a log. Among the bytes `=41` is the length of the buffer for the log, which is that
+// of the longest log where nothing is said, and `+4096` that many bytes 0. The stored output of `r` and `j` was written from document 01 by hand.
 use libc::STDIN_FILENO;
 
 mod show; // what is printed
