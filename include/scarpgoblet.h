@@ -1,5 +1,5 @@
-/* The bench and the judge, for a host program in C. Link with libbench.a for scarpgoblet_run and with libjudge.a for the other two
- * (x86-64): `rt staticlib bench` and `rt staticlib judge` make them, and a host may link both.
+/* The bench and the judge, for a host program in C. Link with libscarpgoblet.a (x86-64): `rt staticlib scarpgoblet` makes it, in
+ * target/staticlib/.
  *
  * All three functions answer for any bytes and any lengths, and keep nothing between calls. No pointer may be null, not even where
  * its length is 0. */

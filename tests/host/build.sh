@@ -1,15 +1,7 @@
-# For the scripts that build a program in C over the two static libraries; they source it from the repository's root. The libraries
-# are x86-64: on another processor a cross compiler and an emulator stand in.
+# For the scripts that build a program in C over the static library; they source it from the repository's root. The library is x86-64:
+# on another processor a cross compiler and an emulator stand in.
 
-library() { # library NAME CRATE..: builds libNAME.a where it is missing or older than the crates that it is made of
-    file=target/staticlib/lib$1.a
-    name=$1
-    shift
-    for crate in "$@"; do set -- "$@" "crates/$crate"; shift; done
-    if [ ! -f "$file" ] || [ -n "$(find crates.txt "$@" -type f -newer "$file")" ]; then
-        rt staticlib "$name"
-    fi
-}
+archive=target/staticlib/libscarpgoblet.a
 
 need() { # need COMMAND PACKAGE..: installs the packages where the command is missing
     command=$1
@@ -17,13 +9,14 @@ need() { # need COMMAND PACKAGE..: installs the packages where the command is mi
     command -v "$command" >/dev/null 2>&1 || { apt-get update -qq && apt-get install -y -qq "$@"; } >/dev/null
 }
 
-libraries() { # builds both libraries where that is needed
-    library judge log judge
-    library bench queue runfile log bench
+library() { # builds the archive where it is missing or older than the crates
+    if [ ! -f "$archive" ] || [ -n "$(find crates.txt crates -type f -newer "$archive")" ]; then
+        rt staticlib scarpgoblet
+    fi
 }
 
 build_host() { # build_host NAME: builds tests/host/NAME.c as target/host/NAME; `emulator` is then what runs it, or nothing
-    libraries
+    library
     if [ "$(uname -m)" = x86_64 ]; then
         need gcc gcc libc6-dev
         compiler=gcc emulator=
@@ -33,6 +26,5 @@ build_host() { # build_host NAME: builds tests/host/NAME.c as target/host/NAME; 
         compiler="x86_64-linux-gnu-gcc -static" emulator=qemu-x86_64
     fi
     mkdir -p target/host
-    $compiler -std=c11 -Wall -Wextra -Werror -O2 -Iinclude "tests/host/$1.c" target/staticlib/libbench.a target/staticlib/libjudge.a \
-        -o "target/host/$1"
+    $compiler -std=c11 -Wall -Wextra -Werror -O2 -Iinclude "tests/host/$1.c" "$archive" -o "target/host/$1"
 }

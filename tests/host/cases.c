@@ -1,4 +1,4 @@
-/* Replies to the cases on standard input, one line each, by the two libraries. A case is a letter and what it is about, lengths in
+/* Replies to the cases on standard input, one line each, by the library. A case is a letter and what it is about, lengths in
  * four bytes, high byte first: R, the length of the buffer for the log, a run file's length, the run file; or J, a log's length, the
  * log. Every file, log and buffer is given just its own bytes of memory, so that a memory checker sees a touch beyond them. */
 #include <stdio.h>

@@ -1,4 +1,4 @@
-/* Tries the libraries from C. Judges the logs of a file, one to a line, a name and its bytes in hexadecimal ("-" for none), and logs
+/* Tries the library from C. Judges the logs of a file, one to a line, a name and its bytes in hexadecimal ("-" for none), and logs
  * that are too long to be written out: prints for each its name, the judge's number and the entry at fault. Then runs the run files of
  * a second file, a name, the room for the log, and bytes, and the longest: prints for each its name, how many bytes were written, the
  * report, and where it was run the judge's number and entry, the log and the queues that are not all 0. */

@@ -1,19 +1,18 @@
+-- The state of a run, and its start.
 pub mod State
+-- The entry of a finished call, and its moment.
 pub mod Moment
+-- One step of a run.
 pub mod Turn
-pub mod TurnLaws
+-- The schedule, the closing, and everything that a run gives.
 pub mod Run
+-- The states that it goes through.
+pub mod States
+-- What is shown of every run.
+pub mod Shown
+-- What `run` promises.
 pub mod Promise
-pub mod Half
-pub mod Layout
-pub mod LayoutLaws
-pub mod RunLaws
-pub mod Induction
-pub mod ClosingLaws
-pub mod BegunLaws
-pub mod EntriesLaws
-pub mod TableLaws
-pub mod FinishLaws
-pub mod GoodLaws
-pub mod Settled
+-- K1 to K8 and K13, computed.
 pub mod Worked
+-- Terms of the code: a reader may skip them.
+pub mod inner

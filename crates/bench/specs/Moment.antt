@@ -6,11 +6,11 @@ use Rattle.log.specs.Numbers.{kindOf, resultOf, noMoment}
 use Rattle.log.specs.declared.Entry.{Entry}
 use Rattle.log.specs.declared.What.{What}
 use Rattle.log.specs.declared.What.the-variants as what
-use Rattle.queue.specs.Stages.{pastB2, popsSlot}
+use Rattle.word.specs.Stages.{pastB2, popsSlot}
 use Rattle.queue.specs.declared.Next.{Next}
 use Rattle.queue.specs.declared.Next.the-variants.{Going, Done, Node, Nil, Full, Refused}
 use Rattle.runfile.specs.declared.Call.{Call}
-use Rattle.runfile.specs.declared.Call.the-variants.{Push, Pop, Take, Wrong}
+use Rattle.runfile.specs.declared.Call.the-variants.{Push, Pop, Take}
 use Rattle.bench.specs.declared.Ended.{Ended}
 use Rattle.bench.specs.declared.Ended.the-variants.{Nothing, Call as ends}
 use Rattle.bench.specs.declared.Process.{Process}
@@ -20,19 +20,16 @@ abbrev pub queueOf : ℕ → Call → ℕ
 queueOf p (Push node) = p
 queueOf p Pop = p
 queueOf p (Take q) = q
-queueOf p (Wrong number) = p
 
 abbrev pub pushedNode : Call → ℕ
 pushedNode (Push node) = node
 pushedNode Pop = 0
 pushedNode (Take q) = 0
-pushedNode (Wrong number) = 0
 
 abbrev pub isTake : Call → Bool
 isTake (Push node) = false
 isTake Pop = false
 isTake (Take q) = true
-isTake (Wrong number) = false
 
 -- the entry of a call of process p, its record being r, that ends at step n
 abbrev pub entry : ℕ → ℕ → Process → What → ℕ → ℕ → Entry

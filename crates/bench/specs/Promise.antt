@@ -1,13 +1,9 @@
 -- What `run` promises: the number of bytes written, and every lent number, for every file and every buffer.
-use Prim.Native.Nat.{ℕ, _+_, _*_, _≤_}
+use Prim.Native.Nat.{ℕ, _+_}
 use mathlib.Core.Path.{_≡_}
 use mathlib.Core.List.{List, [], _∷_, _++_}
-use lib.ListN.{length, take, drop}
-use Rattle.log.specs.Encode.{listOf, headBytes, putAt}
-use Rattle.runfile.specs.declared.Shape.{Shape}
-use Rattle.bench.specs.Layout.{slotsIn, Counted}
-use Rattle.bench.specs.Run.{Outcome, tableSize, tableAt, runOf}
-use Rattle.bench.specs.declared.Bench.{Bench}
+use lib.ListN.{length, drop}
+use Rattle.bench.specs.Run.{Outcome, runOf}
 
 -- number, entries, steps, gone-round takes
 abbrev pub reportOf : Outcome → List ℕ
@@ -31,20 +27,3 @@ pub record HandsBack (file : List ℕ) (room : ℕ) (front report table : List �
   pub part : front ≡ runOf file room .log
   pub counts : report ≡ reportOf (runOf file room)
   pub queues : table ≡ runOf file room .table
-
--- what the program's last part gives: the log with its head, the counts and the table
-pub record Finishes (P C : ℕ) (b : Bench) (flat log buffer : List ℕ) (written : ℕ) (buffer′ report table : List ℕ) : Type 0 where
-  pub bytes : written ≡ 5 + 12 * b .entries
-  pub kept : buffer′ ≡ take (5 + 12 * b .entries) (putAt 0 (headBytes P C (b .entries)) log) ++ drop (5 + 12 * b .entries) buffer
-  pub counts : report ≡ 0 ∷ b .entries ∷ b .steps ∷ b .gone ∷ []
-  pub queues : table ≡ listOf tableSize (tableAt P b (slotsIn C flat))
-
--- where that part begins
-pub record Ends (shape : Shape) (b : Bench) (flat log buffer : List ℕ) : Type 0 where
-  pub counted : Counted b
-  pub processes : shape .processes ≤ 8
-  pub size : shape .size ≤ 64
-  pub all-slots : length flat ≡ 512
-  pub whole-log : length log ≡ 3077
-  pub entries : b .entries ≤ 256
-  pub room : 5 + 12 * b .entries ≤ length buffer

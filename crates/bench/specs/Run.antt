@@ -4,9 +4,10 @@ use mathlib.Core.Bool.{cond}
 use mathlib.Core.List.{List, [], _∷_}
 use lib.Dec.{ltb}
 use lib.ListN.{length, getD, replicate}
-use Rattle.log.specs.Encode.{logBytes, listOf}
-use Rattle.queue.specs.Stages.{isIdle}
-use Rattle.queue.specs.declared.Word.{Word}
+use Rattle.base.specs.Lists.{listOf}
+use Rattle.log.specs.Encode.{logBytes}
+use Rattle.word.specs.Stages.{isIdle}
+use Rattle.word.specs.declared.Word.{Word}
 use Rattle.runfile.specs.File.{RunFile, Answer, refused, good, fileOf}
 use Rattle.runfile.specs.declared.Call.{Call}
 use Rattle.bench.specs.State.{State, start, queueAt, processAt}
@@ -25,21 +26,29 @@ abbrev pub lowest : List Process → ℕ
 lowest [] = 0
 lowest (r ∷ rs) = cond (isIdle (r .stage)) (suc (lowest rs)) 0
 
--- the closing: the lowest half-done process makes its next step, until there is none; no new call is begun
+-- a step of the closing: the lowest half-done process makes its next step
+abbrev pub closingStep : ℕ → ℕ → State → State
+closingStep W C s =
+    let p : ℕ = lowest (s .bench .processes) in
+    act W C p (processAt (s .bench) p) s
+
+-- the closing: such steps, until no process is half-done; no new call is begun
 unfoldable pub close : ℕ → ℕ → ℕ → State → State
 unfolding act
 close W C zero s = s
-close W C (suc k) s =
-    let p : ℕ = lowest (s .bench .processes) in
-    cond (ltb p 8) (close W C k (act W C p (processAt (s .bench) p) s)) s
+close W C (suc k) s = cond (ltb (lowest (s .bench .processes)) 8) (close W C k (closingStep W C s)) s
 
 -- eight calls are half-done at most, and a half-done call has at most six steps left
 abbrev pub closingSteps : ℕ
 closingSteps = 48
 
+-- the state before the closing, and after it
+abbrev pub played : RunFile → State
+played f = play (f .width) (f .size) (f .calls) (f .schedule) (start f)
+
 unfoldable pub closed : RunFile → State
 unfolding play close
-closed f = close (f .width) (f .size) closingSteps (play (f .width) (f .size) (f .calls) (f .schedule) (start f))
+closed f = close (f .width) (f .size) closingSteps (played f)
 
 -- the final table has 67 numbers for each of eight queues, bottom, top, tag and 64 slots; 0 stands at and above C, and for queues at
 -- or above P

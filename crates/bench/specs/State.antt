@@ -4,8 +4,8 @@ use mathlib.Core.Bool.{false}
 use mathlib.Core.List.{List, []}
 use lib.ListN.{getD, take, replicate}
 use Rattle.log.specs.declared.Entry.{Entry}
-use Rattle.log.specs.Encode.{listOf}
-use Rattle.queue.specs.declared.Stage.the-variants.{Idle}
+use Rattle.base.specs.Lists.{listOf}
+use Rattle.word.specs.declared.Stage.the-variants.{Idle}
 use Rattle.runfile.specs.declared.Call.the-variants.{Push}
 use Rattle.runfile.specs.Check.{sum}
 use Rattle.runfile.specs.File.{RunFile}

@@ -5,16 +5,15 @@ use mathlib.Core.List.{List, [], _∷_, _++_}
 use lib.Dec.{ltb}
 use lib.ListN.{getD, set}
 use Rattle.log.specs.declared.Entry.{Entry}
-use Rattle.queue.specs.Stages.{isIdle, atT1, atB2}
-use Rattle.queue.specs.Step.{stored, steppedOn}
-use Rattle.queue.specs.StepLaws.{stageAfter}
+use Rattle.word.specs.Stages.{isIdle, atT1, atB2}
+use Rattle.queue.specs.Step.{stored, steppedOn, stageAfter}
 use Rattle.queue.specs.declared.Next.{Next}
 use Rattle.queue.specs.declared.Next.the-variants.{Going, Done, Node, Nil, Full, Refused}
-use Rattle.queue.specs.declared.Stage.{Stage}
-use Rattle.queue.specs.declared.Stage.the-variants.{Idle, P1, T1, B1}
+use Rattle.word.specs.declared.Stage.{Stage}
+use Rattle.word.specs.declared.Stage.the-variants.{P1, T1, B1}
 use Rattle.queue.specs.declared.Stepped.{Stepped}
 use Rattle.runfile.specs.declared.Call.{Call}
-use Rattle.runfile.specs.declared.Call.the-variants.{Push, Pop, Take, Wrong}
+use Rattle.runfile.specs.declared.Call.the-variants.{Push, Pop, Take}
 use Rattle.bench.specs.Moment.{queueOf, ended, goneRound}
 use Rattle.bench.specs.State.{State, queueAt, processAt}
 use Rattle.bench.specs.declared.Bench.{Bench}
@@ -27,7 +26,6 @@ abbrev pub firstStage : Call → Stage
 firstStage (Push node) = P1 node
 firstStage Pop = B1
 firstStage (Take q) = T1
-firstStage (Wrong number) = Idle
 
 -- a call starts at its first step
 abbrev pub begun : ℕ → Call → Process → Process
@@ -132,6 +130,10 @@ unfoldable pub turnAs : ℕ → ℕ → ℕ → State → Process → State
 unfolding act
 turnAs W C p s r = cond (isIdle (r .stage)) (idle s) (act W C p r s)
 
+-- the record with which process p makes its turn
+abbrev pub turning : List Call → ℕ → State → Process
+turning calls p s = ready calls (s .bench .steps) (processAt (s .bench) p)
+
 unfoldable pub turn : ℕ → ℕ → List Call → ℕ → State → State
 unfolding turnAs
-turn W C calls p s = turnAs W C p s (ready calls (s .bench .steps) (processAt (s .bench) p))
+turn W C calls p s = turnAs W C p s (turning calls p s)

@@ -4,7 +4,8 @@ ghost use mathlib.Core.List.{[], _∷_};
 ghost use lib.ListN.{length, replicate};
 ghost use denote.Ref.{ptr};
 ghost use Rattle.runfile.specs.File.{fileOf, readingOf};
-ghost use Rattle.bench.specs.Promise.{Ends, Finishes, Ran, HandsBack};
+ghost use Rattle.bench.specs.Promise.{Ran, HandsBack};
+ghost use Rattle.bench.specs.inner.Finish.{Ends, Finishes};
 ghost use Rattle.bench.specs.Run.{tableSize};
 
 mod moment; // what a step ends, and its moment
@@ -14,11 +15,11 @@ mod table; // the final table
 mod turn; // one step of a run
 
 use log::Entry;
-use queue::Stage;
-use queue::Word;
 use runfile::Call;
 use runfile::Reading;
 use runfile::Shape;
+use word::Stage;
+use word::Word;
 
 // A queue of the bench: its control word, and how often it was reset.
 pub struct Queue {
@@ -102,7 +103,7 @@ fn run_good(
     let mut slots = [0u16; 512];
     let mut log = [0u8; 3077];
     let started = start::start(file, shape.processes);
-    let from = runfile::schedule_place(shape.processes, shape.calls);
+    let from = shape.schedule_place();
     let to = from + shape.steps as usize;
     let played = loops::play(file, shape, &file[from..to], started, &mut slots, &mut log);
     let closed = loops::close(file, shape, played, &mut slots, &mut log);
@@ -141,17 +142,4 @@ pub fn run<'a>(
 {
     let written = run_len(file, buffer, report, table);
     &mut buffer[..written]
-}
-
-// run_len, for a host in C.
-#[no_mangle]
-pub extern "C" fn scarpgoblet_run(
-    file: &[u8],
-    log: &mut [u8],
-    report: &mut [u16; 4],
-    table: &mut [u16; 536],
-) -> usize
-    ensures { λ r. ⌜ Ran (now (file .entry)) (now (log .entry)) r (now (log .exit)) (now (report .exit)) (now (table .exit)) ⌝ }
-{
-    run_len(file, log, report, table)
 }

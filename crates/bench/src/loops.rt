@@ -2,16 +2,16 @@
 ghost use mathlib.Core.Path.{_≡_};
 ghost use lib.ListN.{length};
 ghost use Rattle.runfile.specs.File.{firstCalls};
-ghost use Rattle.bench.specs.Half.{bit as bitOf, halfDone};
-ghost use Rattle.bench.specs.Layout.{stateIn, Becomes, ToPlay, ToClose};
+ghost use Rattle.bench.specs.inner.Half.{bit as bitOf, halfDone};
+ghost use Rattle.bench.specs.inner.Layout.{stateIn, Becomes, ToPlay, ToClose};
 ghost use Rattle.bench.specs.Run.{play as playOf, close as closeOf, closingSteps};
-ghost use Rattle.queue.specs.Stages.{isIdle};
+ghost use Rattle.word.specs.Stages.{isIdle};
 use crate::Bench;
 use crate::moment::queue_of;
 use crate::turn::moves;
 use crate::turn::ready;
-use queue::Stage;
 use runfile::Shape;
+use word::Stage;
 
 // A schedule, step by step. The bench is altered where it stands, record by record: handing all of it to a step and back would cost more than the
 // step.
@@ -37,7 +37,7 @@ pub(crate) fn play(
         let n = after.steps;
         after.steps = n + 1;
         i = i + 1;
-        if queue::stages::is_idle(stage) {
+        if stage.is_idle() {
             continue;
         }
         let call = of.call;
@@ -59,7 +59,7 @@ pub(crate) fn play(
 fn bit(stage: Stage) -> u8
     ensures { λ r. ⌜ r ≡ bitOf (isIdle stage) ⌝ }
 {
-    if queue::stages::is_idle(stage) { 0 } else { 1 }
+    if stage.is_idle() { 0 } else { 1 }
 }
 
 // The half-done processes, as a set of eight bits.

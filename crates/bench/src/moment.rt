@@ -17,7 +17,6 @@ pub(crate) fn queue_of(p: u8, call: Call) -> u8
         Call::Push(_) => p,
         Call::Pop => p,
         Call::Take(q) => q,
-        Call::Wrong(_) => p,
     }
 }
 
@@ -28,7 +27,6 @@ fn pushed_node(call: Call) -> u16
         Call::Push(node) => node,
         Call::Pop => 0,
         Call::Take(_) => 0,
-        Call::Wrong(_) => 0,
     }
 }
 
@@ -39,7 +37,6 @@ fn is_take(call: Call) -> bool
         Call::Push(_) => false,
         Call::Pop => false,
         Call::Take(_) => true,
-        Call::Wrong(_) => false,
     }
 }
 
@@ -66,7 +63,7 @@ fn nil_moment(n: u16, of: Process) -> u16
     ensures { λ r. ⌜ r ≡ nilMoment n of ⌝ }
 {
     let stage = of.stage;
-    if queue::stages::past_b2(stage) {
+    if stage.past_b2() {
         2 * of.back + 1
     } else {
         2 * n
@@ -79,7 +76,7 @@ fn take_moment(n: u16, owner: Process, t: u16) -> u16
     ensures { λ r. ⌜ r ≡ takeMoment n owner t ⌝ }
 {
     let stage = owner.stage;
-    if queue::stages::pops_slot(stage, t) {
+    if stage.pops_slot(t) {
         2 * owner.back
     } else {
         2 * n

@@ -8,9 +8,9 @@ ghost use Rattle.bench.specs.State.{waiting as waitingOf, fresh as fresh
 use crate::Bench;
 use crate::Process;
 use crate::Queue;
-use queue::Stage;
-use queue::Word;
 use runfile::Call;
+use word::Stage;
+use word::Word;
 
 pub(crate) fn fresh() -> Queue
     ensures { λ r. ⌜ r ≡ freshOf ⌝ }

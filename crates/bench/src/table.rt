@@ -2,11 +2,11 @@
 ghost use mathlib.Core.Path.{_≡_};
 ghost use Prim.Native.Nat.{_≤_, _<_};
 ghost use lib.ListN.{length, getD};
-ghost use Rattle.log.specs.Encode.{listOf};
-ghost use Rattle.bench.specs.Layout.{slotsOf, slotsIn};
+ghost use Rattle.base.specs.Lists.{listOf};
+ghost use Rattle.bench.specs.inner.Layout.{slotsOf, slotsIn};
 ghost use Rattle.bench.specs.Run.{tableRow, inTable, tableAt, tableSize};
 use crate::Bench;
-use queue::Word;
+use word::Word;
 
 // Number i of a queue's row: bottom, top, tag, the slots, and 0 past them.
 fn in_row(word: Word, size: u8, slots: &[u16], q: usize, i: usize) -> u16

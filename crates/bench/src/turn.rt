@@ -4,8 +4,8 @@ ghost use mathlib.Core.Bool.{cond};
 ghost use Prim.Native.Nat.{_≤_, _<_};
 ghost use lib.ListN.{length, getD};
 ghost use Rattle.bench.specs.Moment.{queueOf};
-ghost use Rattle.queue.specs.StepLaws.{stageAfter};
-ghost use Rattle.bench.specs.Layout.{putEntries, StepsIn, Moves};
+ghost use Rattle.queue.specs.Step.{stageAfter};
+ghost use Rattle.bench.specs.inner.Layout.{putEntries, StepsIn, Moves};
 ghost use Rattle.runfile.specs.File.{firstCalls};
 ghost use Rattle.bench.specs.Turn.{firstStage, begun as begunOf, processAfter, queueAfter, isRefused, count as countOf, entriesIn, ready as readyOf};
 use crate::Ended;
@@ -13,11 +13,11 @@ use crate::Process;
 use crate::Queue;
 use crate::moment;
 use queue::Next;
-use queue::Stage;
 use queue::Stepped;
-use queue::Word;
 use runfile::Call;
 use runfile::Shape;
+use word::Stage;
+use word::Word;
 
 fn first_stage(call: Call) -> Stage
     ensures { λ r. ⌜ r ≡ firstStage call ⌝ }
@@ -26,7 +26,6 @@ fn first_stage(call: Call) -> Stage
         Call::Push(node) => Stage::P1 { node },
         Call::Pop => Stage::B1,
         Call::Take(_) => Stage::T1,
-        Call::Wrong(_) => Stage::Idle,
     }
 }
 
@@ -83,8 +82,8 @@ fn process_after(n: u16, resets: u16, of: Process, next: Next) -> Process
     let stage = of.stage;
     Process {
         stage: stage_after(next),
-        back: if_so(queue::stages::at_b2(stage), n, of.back),
-        seen: if_so(queue::stages::at_t1(stage), resets, of.seen),
+        back: if_so(stage.at_b2(), n, of.back),
+        seen: if_so(stage.at_t1(), resets, of.seen),
         ..of
     }
 }
@@ -191,7 +190,7 @@ pub(crate) fn ready(file: &[u8], shape: Shape, n: u16, of: Process) -> Process
 {
     let stage = of.stage;
     let k = of.next;
-    if queue::stages::is_idle(stage) & (k < of.stop) {
+    if stage.is_idle() & (k < of.stop) {
         begun(n, call_in(file, shape, k), of)
     } else {
         of

@@ -5,16 +5,16 @@ use mathlib.Core.Bool.{Bool, true, false, cond, _&&_, _||_}
 use mathlib.Core.List.{List, [], _∷_}
 use Prim.Native.String.{String}
 use lib.Dec.{ltb, eqb}
-use Rattle.queue.specs.declared.Stage.{Stage}
-use Rattle.queue.specs.declared.Stage.the-variants.{Idle, P1, P2, P3, T1, T2, T3, T4, B1, B2, B3, B4, B5, B6, B7}
+use Rattle.word.specs.declared.Stage.{Stage}
+use Rattle.word.specs.declared.Stage.the-variants.{Idle, P1, P2, P3, T1, T2, T3, T4, B1, B2, B3, B4, B5, B6, B7}
 use Rattle.desk.specs.Text.{typed}
-use Rattle.desk.specs.declared.Words.{Words}
-use Rattle.desk.specs.declared.Line.{Line}
-use Rattle.desk.specs.declared.Line.the-variants as line
-use Rattle.desk.specs.declared.Why.the-variants.{Nothing, NoStage, Count, NoNumber}
-use Rattle.desk.specs.declared.Sizes.{Sizes}
-use Rattle.desk.specs.declared.Sizes.the-variants as sizes
-use Rattle.desk.specs.declared.SizesWhy.the-variants as sizes-why
+use Rattle.desk.specs.declared.words.Words.{Words}
+use Rattle.desk.specs.declared.lines.Line.{Line}
+use Rattle.desk.specs.declared.lines.Line.the-variants as line
+use Rattle.desk.specs.declared.lines.Why.the-variants.{Nothing, NoStage, Count, NoNumber}
+use Rattle.desk.specs.declared.lines.Sizes.{Sizes}
+use Rattle.desk.specs.declared.lines.Sizes.the-variants as sizes
+use Rattle.desk.specs.declared.lines.SizesWhy.the-variants as sizes-why
 
 -- a space, a tab or a carriage return
 abbrev pub blank : ℕ → Bool

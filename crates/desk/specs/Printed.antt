@@ -4,8 +4,9 @@ use mathlib.Core.Bool.{cond}
 use mathlib.Core.List.{List, [], _∷_, _++_}
 use Prim.Native.String.{String}
 use lib.Dec.{ltb}
-use Rattle.queue.specs.declared.Stage.{Stage}
-use Rattle.queue.specs.declared.Stage.the-variants.{Idle, P1, P2, P3, T1, T2, T3, T4, B1, B2, B3, B4, B5, B6, B7}
+use lib.ListN.{getD, drop}
+use Rattle.word.specs.declared.Stage.{Stage}
+use Rattle.word.specs.Stages.{listed, rowNumber}
 use Rattle.desk.specs.Text.{typed}
 
 -- the last k decimal digits of n
@@ -21,39 +22,15 @@ abbrev pub spaced : List ℕ → List ℕ
 spaced [] = []
 spaced (n ∷ numbers) = 32 ∷ (digits (places n) n ++ spaced numbers)
 
+-- the stages by their rows
+abbrev pub names : List String
+names = "idle" ∷ "P1" ∷ "P2" ∷ "P3" ∷ "T1" ∷ "T2" ∷ "T3" ∷ "T4" ∷ "B1" ∷ "B2" ∷ "B3" ∷ "B4" ∷ "B5" ∷ "B6" ∷ "B7" ∷ []
+
 abbrev pub nameOf : Stage → String
-nameOf Idle = "idle"
-nameOf (P1 node) = "P1"
-nameOf (P2 node b) = "P2"
-nameOf (P3 b) = "P3"
-nameOf T1 = "T1"
-nameOf (T2 t g) = "T2"
-nameOf (T3 t g b) = "T3"
-nameOf (T4 t g b x) = "T4"
-nameOf B1 = "B1"
-nameOf (B2 b) = "B2"
-nameOf (B3 b) = "B3"
-nameOf (B4 b x) = "B4"
-nameOf (B5 b x t g) = "B5"
-nameOf (B6 b x t g) = "B6"
-nameOf (B7 b x t g) = "B7"
+nameOf s = getD names (rowNumber s) ""
 
 abbrev pub numbersOf : Stage → List ℕ
-numbersOf Idle = []
-numbersOf (P1 node) = node ∷ []
-numbersOf (P2 node b) = node ∷ b ∷ []
-numbersOf (P3 b) = b ∷ []
-numbersOf T1 = []
-numbersOf (T2 t g) = t ∷ g ∷ []
-numbersOf (T3 t g b) = t ∷ g ∷ b ∷ []
-numbersOf (T4 t g b x) = t ∷ g ∷ b ∷ x ∷ []
-numbersOf B1 = []
-numbersOf (B2 b) = b ∷ []
-numbersOf (B3 b) = b ∷ []
-numbersOf (B4 b x) = b ∷ x ∷ []
-numbersOf (B5 b x t g) = b ∷ x ∷ t ∷ g ∷ []
-numbersOf (B6 b x t g) = b ∷ x ∷ t ∷ g ∷ []
-numbersOf (B7 b x t g) = b ∷ x ∷ t ∷ g ∷ []
+numbersOf s = drop 1 (listed s)
 
 abbrev pub printed : Stage → List ℕ
 printed s = typed (nameOf s) ++ spaced (numbersOf s)

@@ -2,14 +2,14 @@
 use mathlib.Core.Path.{_≡_, refl}
 use mathlib.Core.List.{List, [], _∷_, map}
 use Prim.Native.String.{String}
-use Rattle.queue.specs.declared.Stage.the-variants.{Idle, P1, P2, P3, T1, T2, T3, T4, B1, B2, B3, B4, B5, B6, B7}
-use Rattle.desk.specs.declared.Line.{Line}
-use Rattle.desk.specs.declared.Line.the-variants.{Stage, Wrong}
-use Rattle.desk.specs.declared.Why.the-variants.{Nothing, NoStage, Count, NoNumber}
-use Rattle.desk.specs.declared.Sizes.{Sizes}
-use Rattle.desk.specs.declared.Sizes.the-variants as sizes
-use Rattle.desk.specs.declared.SizesWhy.{SizesWhy}
-use Rattle.desk.specs.declared.SizesWhy.the-variants as sizes-why
+use Rattle.word.specs.declared.Stage.the-variants.{Idle, P1, P2, P3, T1, T2, T3, T4, B1, B2, B3, B4, B5, B6, B7}
+use Rattle.desk.specs.declared.lines.Line.{Line}
+use Rattle.desk.specs.declared.lines.Line.the-variants.{Stage, Wrong}
+use Rattle.desk.specs.declared.lines.Why.the-variants.{Nothing, NoStage, Count, NoNumber}
+use Rattle.desk.specs.declared.lines.Sizes.{Sizes}
+use Rattle.desk.specs.declared.lines.Sizes.the-variants as sizes
+use Rattle.desk.specs.declared.lines.SizesWhy.{SizesWhy}
+use Rattle.desk.specs.declared.lines.SizesWhy.the-variants as sizes-why
 use Rattle.desk.specs.Text.{typed}
 use Rattle.desk.specs.Line.{lineOf, sizesOf}
 

@@ -13,7 +13,7 @@ use Rattle.log.specs.declared.Entry.{Entry}
 use Rattle.log.specs.declared.What.{What}
 use Rattle.log.specs.declared.What.the-variants.{BottomNode, TopNode, TopNil}
 use Rattle.log.specs.Numbers.{what, same, bearsMoment}
-use Rattle.log.specs.NumbersLaws.{same-true}
+use Rattle.log.proofs.NumbersLaws.{same-true}
 use Rattle.rules.specs.Search.{any}
 use Rattle.rules.specs.Contents.{bears, on, before, applied}
 use Rattle.rules.specs.Rules.{isEmpty, inCall, emptyWithin, takesTopmost, removes, hasCause, breaks5}

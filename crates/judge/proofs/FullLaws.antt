@@ -13,7 +13,7 @@ use lib.Seq.{getD-set-same, getD-set-other}
 use Rattle.log.specs.declared.Entry.{Entry}
 use Rattle.log.specs.declared.What.the-variants.{Pushed, Full}
 use Rattle.log.specs.Numbers.{push, what, same, kindOf, bearsMoment}
-use Rattle.log.specs.NumbersLaws.{same-true}
+use Rattle.log.proofs.NumbersLaws.{same-true}
 use Rattle.rules.specs.Search.{count}
 use Rattle.rules.specs.Rules.{pushedOn, donePushes, breaks6}
 use Rattle.base.proofs.Bools.{contra, and-0, and-1}

@@ -8,9 +8,3 @@ use Rattle.rules.specs.Judge.{judgeOf}
 
 pub judge : (bytes : List ℕ) (r s : Verdict) → r ≡ judgeOf bytes → s ≡ judgeOf bytes → r ≡ s
 judge bytes r s = one-value
-
-pub scarpgoblet-judge : (bytes : List ℕ) (r s : ℕ) → r ≡ judgeOf bytes .number → s ≡ judgeOf bytes .number → r ≡ s
-scarpgoblet-judge bytes r s = one-value
-
-pub scarpgoblet-judge-entry : (bytes : List ℕ) (r s : ℕ) → r ≡ judgeOf bytes .entry → s ≡ judgeOf bytes .entry → r ≡ s
-scarpgoblet-judge-entry bytes r s = one-value

@@ -14,7 +14,7 @@ use Rattle.log.specs.declared.Entry.{Entry}
 use Rattle.log.specs.declared.What.{What}
 use Rattle.log.specs.declared.What.the-variants.{Pushed, Full, BottomNode, BottomNil, TopNode, TopNil}
 use Rattle.log.specs.Numbers.{what, same, bearsMoment}
-use Rattle.log.specs.NumbersLaws.{same-true}
+use Rattle.log.proofs.NumbersLaws.{same-true}
 use Rattle.rules.specs.Contents.{bears, before, applied, dropLast, dropFirst}
 use Rattle.rules.specs.Rules.{isEmpty}
 use Rattle.base.proofs.Bools.{contra, and-i, and-0, and-1}

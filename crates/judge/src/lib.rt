@@ -72,14 +72,19 @@ fn moment_rules(log: &[u8], n: usize, slots: u8) -> Verdict
 fn head_right(count: u8, p: u8, slots: u8, n: usize) -> bool
     ensures { λ r. ⌜ r ≡ headRight count p slots n ⌝ }
 {
-    (count == log::SECTION_COUNT) & (1 <= p) & (p <= 8) & (1 <= slots) & (slots <= 64) & (n <= 256)
+    (count == log::SECTION_COUNT)
+        & (1 <= p)
+        & (p <= 8)
+        & (1 <= slots)
+        & (slots <= 64)
+        & (n <= log::MOST_ENTRIES)
 }
 
 // The judge, of any bytes.
 pub fn judge(log: &[u8]) -> Verdict
     ensures { λ r. ⌜ r ≡ judgeOf (now (log .entry)) ⌝ }
 {
-    if log.len() < 5 {
+    if log.len() < log::HEAD_LENGTH {
         return verdict_of(11, 0);
     }
     let count = base::byte_at(log, 0);
@@ -90,7 +95,7 @@ pub fn judge(log: &[u8]) -> Verdict
     if !right {
         return verdict_of(12, 0);
     }
-    let whole = 5 + 12 * n;
+    let whole = log::HEAD_LENGTH + log::ENTRY_LENGTH * n;
     if log.len() < whole {
         return verdict_of(11, 0);
     }
@@ -98,23 +103,4 @@ pub fn judge(log: &[u8]) -> Verdict
         return verdict_of(13, 0);
     }
     rules(log, n, p, slots)
-}
-
-// For a host program: the judge's number, and the entry at fault.
-#[no_mangle]
-pub extern "C" fn scarpgoblet_judge(log: &[u8]) -> u32
-    ensures { λ r. ⌜ r ≡ judgeOf (now (log .entry)) .number ⌝ }
-{
-    let v = judge(log);
-    let number = v.number;
-    number as u32
-}
-
-#[no_mangle]
-pub extern "C" fn scarpgoblet_judge_entry(log: &[u8]) -> u32
-    ensures { λ r. ⌜ r ≡ judgeOf (now (log .entry)) .entry ⌝ }
-{
-    let v = judge(log);
-    let entry = v.entry;
-    entry as u32
 }

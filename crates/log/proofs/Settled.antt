@@ -1,11 +1,10 @@
 -- Each public function's promise settles its result: two results that it allows are equal.
 use mathlib.Core.Path.{_≡_}
-use mathlib.Core.Bool.{Bool}
 use mathlib.Core.List.{List}
 use Prim.Native.Nat.{ℕ}
 use Rattle.log.specs.declared.Entry.{Entry}
 use Rattle.log.specs.declared.What.{What}
-use Rattle.log.specs.Numbers.{kindOf, resultOf, bearsMoment, whatOf, same}
+use Rattle.log.specs.Numbers.{kindOf, resultOf, whatOf}
 use Rattle.base.specs.Bytes.{putAt}
 use Rattle.base.proofs.Settled.{one-value}
 use Rattle.log.specs.Decode.{entryAt}
@@ -17,14 +16,8 @@ kind-of w r s = one-value
 pub result-of : (w : What) (r s : ℕ) → r ≡ resultOf w → s ≡ resultOf w → r ≡ s
 result-of w r s = one-value
 
-pub bears-moment : (w : What) (r s : Bool) → r ≡ bearsMoment w → s ≡ bearsMoment w → r ≡ s
-bears-moment w r s = one-value
-
 pub what-of : (kind result : ℕ) (r s : What) → r ≡ whatOf kind result → s ≡ whatOf kind result → r ≡ s
 what-of kind result r s = one-value
-
-pub same-of : (a b : What) (r s : Bool) → r ≡ same a b → s ≡ same a b → r ≡ s
-same-of a b r s = one-value
 
 pub entry-at : (bytes : List ℕ) (i : ℕ) (r s : Entry) → r ≡ entryAt bytes i → s ≡ entryAt bytes i → r ≡ s
 entry-at bytes i r s = one-value

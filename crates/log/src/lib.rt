@@ -6,10 +6,8 @@ mod numbers; // what a call did, by kind and result
 pub use crate::decode::entry_at;
 pub use crate::encode::put_entry;
 pub use crate::encode::put_head;
-pub use crate::numbers::bears_moment;
 pub use crate::numbers::kind_of;
 pub use crate::numbers::result_of;
-pub use crate::numbers::same;
 pub use crate::numbers::what_of;
 
 // A finished call.

@@ -1,6 +1,6 @@
-// What a call did: its kind, its result, and whether it has a moment.
+// What a call did: its kind and its result, and back.
 ghost use mathlib.Core.Path.{_≡_};
-ghost use Rattle.log.specs.Numbers.{kindOf, resultOf, bearsMoment, whatOf, same as sameWhat};
+ghost use Rattle.log.specs.Numbers.{kindOf, resultOf, whatOf};
 use crate::BOTTOM_POP;
 use crate::DONE;
 use crate::FULL;
@@ -31,16 +31,6 @@ pub fn result_of(what: What) -> u8
     }
 }
 
-// Whether the log has a moment for it.
-pub fn bears_moment(what: What) -> bool
-    ensures { λ r. ⌜ r ≡ bearsMoment what ⌝ }
-{
-    match what {
-        What::Full | What::TopNil => false,
-        _ => true,
-    }
-}
-
 // What a kind and a result say a call did. Other numbers read as a top pop and as NIL: every reader refuses them before it asks.
 pub fn what_of(kind: u8, result: u8) -> What
     ensures { λ r. ⌜ r ≡ whatOf kind result ⌝ }
@@ -61,11 +51,4 @@ pub fn what_of(kind: u8, result: u8) -> What
         return What::TopNode;
     }
     What::TopNil
-}
-
-// Whether two calls did the same: kind and result tell all of it.
-pub fn same(a: What, b: What) -> bool
-    ensures { λ r. ⌜ r ≡ sameWhat a b ⌝ }
-{
-    (kind_of(a) == kind_of(b)) & (result_of(a) == result_of(b))
 }

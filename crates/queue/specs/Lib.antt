@@ -1,13 +1,4 @@
-pub mod Tests
-pub mod Tag
-pub mod TagLaws
-pub mod Stages
-pub mod Range
-pub mod RangeLaws
+-- The steps of the queue: document 01's table.
 pub mod Step
-pub mod StepLaws
+-- The table at its edges, computed.
 pub mod Worked
-pub mod Settled
-pub mod Desk
-pub mod DeskLaws
-pub mod DeskWorked

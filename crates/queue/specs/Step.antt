@@ -1,16 +1,17 @@
 -- The steps of the queue, row by row as in document 01's table. W is the tag's width, C the number of slots, w the control word,
 -- v the value of the slot that the stage loads.
-use Prim.Native.Nat.{ℕ, _+_, _-_}
+use Prim.Native.Nat.{ℕ, _+_, _-_, _<_}
 use mathlib.Core.Path.{_≡_}
 use mathlib.Core.Bool.{Bool, true, false, cond, _&&_}
-use mathlib.Core.List.{List}
+use mathlib.Core.List.{List, [], _∷_}
 use lib.ListN.{length, getD, set}
 use lib.Dec.{ltb, leb, eqb}
-use Rattle.queue.specs.Tag.{nextTag}
-use Rattle.queue.specs.Range.{inRange}
-use Rattle.queue.specs.declared.Word.{Word}
-use Rattle.queue.specs.declared.Stage.{Stage}
-use Rattle.queue.specs.declared.Stage.the-variants.{Idle, P1, P2, P3, T1, T2, T3, T4, B1, B2, B3, B4, B5, B6, B7}
+use Rattle.word.specs.Tag.{nextTag}
+use Rattle.word.specs.Stages.{rowNumber, firstLoaded}
+use Rattle.range.specs.Range.{inRange}
+use Rattle.word.specs.declared.Word.{Word}
+use Rattle.word.specs.declared.Stage.{Stage}
+use Rattle.word.specs.declared.Stage.the-variants.{Idle, P1, P2, P3, T1, T2, T3, T4, B1, B2, B3, B4, B5, B6, B7}
 use Rattle.queue.specs.declared.Next.{Next}
 use Rattle.queue.specs.declared.Next.the-variants.{Going, Done, Node, Nil, Full, Refused}
 use Rattle.queue.specs.declared.Load.{Load}
@@ -25,9 +26,9 @@ bottomTo w b = record { bottom = b; top = w .top; tag = w .tag }
 abbrev pub ageTo : Word → ℕ → ℕ → Word
 ageTo w t g = record { bottom = w .bottom; top = t; tag = g }
 
--- a step that stores in no slot and is no reset
-abbrev pub still : Word → Next → Stepped
-still w n = record { word = w; store = store.Nothing; reset = false; next = n }
+-- a step that leaves the word w, stores in no slot and is no reset
+abbrev pub leaves : Word → Next → Stepped
+leaves w n = record { word = w; store = store.Nothing; reset = false; next = n }
 
 abbrev pub stores : Word → ℕ → ℕ → Next → Stepped
 stores w at node n = record { word = w; store = store.Slot at node; reset = false; next = n }
@@ -41,43 +42,28 @@ abbrev pub sameAge : Word → ℕ → ℕ → Bool
 sameAge w t g = eqb (w .top) t && eqb (w .tag) g
 
 abbrev pub rowOf : ℕ → ℕ → Word → ℕ → Stage → Stepped
-rowOf W C w v Idle = still w (Going Idle)
-rowOf W C w v (P1 node) = cond (eqb (w .bottom) C) (still w Full) (still w (Going (P2 node (w .bottom))))
+rowOf W C w v Idle = leaves w (Going Idle)
+rowOf W C w v (P1 node) = cond (eqb (w .bottom) C) (leaves w Full) (leaves w (Going (P2 node (w .bottom))))
 rowOf W C w v (P2 node b) = stores w b node (Going (P3 b))
-rowOf W C w v (P3 b) = still (bottomTo w (b + 1)) Done
-rowOf W C w v T1 = still w (Going (T2 (w .top) (w .tag)))
-rowOf W C w v (T2 t g) = cond (leb (w .bottom) t) (still w Nil) (still w (Going (T3 t g (w .bottom))))
-rowOf W C w v (T3 t g b) = still w (Going (T4 t g b v))
-rowOf W C w v (T4 t g b x) = cond (sameAge w t g) (still (ageTo w (t + 1) g) (Node x)) (still w Nil)
-rowOf W C w v B1 = cond (eqb (w .bottom) 0) (still w Nil) (still w (Going (B2 (w .bottom))))
-rowOf W C w v (B2 b) = still (bottomTo w (b - 1)) (Going (B3 b))
-rowOf W C w v (B3 b) = still w (Going (B4 b v))
-rowOf W C w v (B4 b x) = cond (ltb (w .top) (b - 1)) (still w (Node x)) (still w (Going (B5 b x (w .top) (w .tag))))
-rowOf W C w v (B5 b x t g) = still (bottomTo w 0) (Going (cond (eqb (b - 1) t) (B6 b x t g) (B7 b x t g)))
-rowOf W C w v (B6 b x t g) = cond (sameAge w t g) (resets W w g (Node x)) (still w (Going (B7 b x t g)))
+rowOf W C w v (P3 b) = leaves (bottomTo w (b + 1)) Done
+rowOf W C w v T1 = leaves w (Going (T2 (w .top) (w .tag)))
+rowOf W C w v (T2 t g) = cond (leb (w .bottom) t) (leaves w Nil) (leaves w (Going (T3 t g (w .bottom))))
+rowOf W C w v (T3 t g b) = leaves w (Going (T4 t g b v))
+rowOf W C w v (T4 t g b x) = cond (sameAge w t g) (leaves (ageTo w (t + 1) g) (Node x)) (leaves w Nil)
+rowOf W C w v B1 = cond (eqb (w .bottom) 0) (leaves w Nil) (leaves w (Going (B2 (w .bottom))))
+rowOf W C w v (B2 b) = leaves (bottomTo w (b - 1)) (Going (B3 b))
+rowOf W C w v (B3 b) = leaves w (Going (B4 b v))
+rowOf W C w v (B4 b x) = cond (ltb (w .top) (b - 1)) (leaves w (Node x)) (leaves w (Going (B5 b x (w .top) (w .tag))))
+rowOf W C w v (B5 b x t g) = leaves (bottomTo w 0) (Going (cond (eqb (b - 1) t) (B6 b x t g) (B7 b x t g)))
+rowOf W C w v (B6 b x t g) = cond (sameAge w t g) (resets W w g (Node x)) (leaves w (Going (B7 b x t g)))
 rowOf W C w v (B7 b x t g) = resets W w g Nil
 
--- a step out of range is refused, and alters nothing
-abbrev pub stepOf : ℕ → ℕ → Word → ℕ → Stage → Stepped
-stepOf W C w v s = cond (inRange W C C w s) (rowOf W C w v s) (still w Refused)
-
--- what a stage touches: the slot that it loads, and by its row the slot that it stores
+-- what a stage touches: the slot that it loads, and by its row the slot that it stores. T3 loads slot t, and B3 slot b−1: each the number that
+-- its call loaded first
 abbrev pub loadedSlot : Stage → Load
-loadedSlot Idle = load.Nothing
-loadedSlot (P1 node) = load.Nothing
-loadedSlot (P2 node b) = load.Nothing
-loadedSlot (P3 b) = load.Nothing
-loadedSlot T1 = load.Nothing
-loadedSlot (T2 t g) = load.Nothing
-loadedSlot (T3 t g b) = load.Slot t
-loadedSlot (T4 t g b x) = load.Nothing
-loadedSlot B1 = load.Nothing
-loadedSlot (B2 b) = load.Nothing
-loadedSlot (B3 b) = load.Slot (b - 1)
-loadedSlot (B4 b x) = load.Nothing
-loadedSlot (B5 b x t g) = load.Nothing
-loadedSlot (B6 b x t g) = load.Nothing
-loadedSlot (B7 b x t g) = load.Nothing
+loadedSlot s =
+    cond (eqb (rowNumber s) (rowNumber (T3 0 0 0))) (load.Slot (firstLoaded s))
+    (cond (eqb (rowNumber s) (rowNumber (B3 0))) (load.Slot (firstLoaded s - 1)) load.Nothing)
 
 abbrev pub loaded : List ℕ → Load → ℕ
 loaded slots load.Nothing = 0
@@ -87,10 +73,40 @@ abbrev pub stored : List ℕ → Store → List ℕ
 stored slots store.Nothing = slots
 stored slots (store.Slot at node) = set slots at node
 
--- the step of a stage on a queue's slots
-abbrev pub steppedOn : ℕ → ℕ → Word → List ℕ → Stage → Stepped
-steppedOn W C w slots s = cond (inRange W C (length slots) w s) (rowOf W C w (loaded slots (loadedSlot s)) s) (still w Refused)
+-- This paper's values for what follows a step. Where the process stands: one whose call has returned is idle.
+abbrev pub stageAfter : Next → Stage
+stageAfter (Going s) = s
+stageAfter Done = Idle
+stageAfter (Node x) = Idle
+stageAfter Nil = Idle
+stageAfter Full = Idle
+stageAfter Refused = Idle
 
+-- of a call that returned, its result and its node as in the log; done and FULL leave the node to the push
+abbrev pub resultOf : Next → List ℕ
+resultOf (Going s) = []
+resultOf Done = 1 ∷ []
+resultOf (Node x) = 1 ∷ x ∷ []
+resultOf Nil = 0 ∷ 0 ∷ []
+resultOf Full = 2 ∷ []
+resultOf Refused = []
+
+-- the step of a stage on a queue's slots; out of range it is refused, and alters nothing
+abbrev pub steppedOn : ℕ → ℕ → Word → List ℕ → Stage → Stepped
+steppedOn W C w slots s = cond (inRange W C (length slots) w s) (rowOf W C w (loaded slots (loadedSlot s)) s) (leaves w Refused)
+
+-- what the step promises: its answer, with the values that it stands for, and every slot
 pub record StepOn (W C : ℕ) (w : Word) (slots : List ℕ) (s : Stage) (answer : Stepped) (after : List ℕ) : Type 0 where
   pub stepped : answer ≡ steppedOn W C w slots s
+  pub staged : stageAfter (answer .next) ≡ stageAfter (steppedOn W C w slots s .next)
+  pub resulted : resultOf (answer .next) ≡ resultOf (steppedOn W C w slots s .next)
   pub kept : after ≡ stored slots (steppedOn W C w slots s .store)
+
+-- the slot that a step touches, if it touches one, is below C
+abbrev pub LoadsBelow : ℕ → Load → Type 0
+LoadsBelow C load.Nothing = Unit {0}
+LoadsBelow C (load.Slot at) = at < C
+
+abbrev pub StoresBelow : ℕ → Store → Type 0
+StoresBelow C store.Nothing = Unit {0}
+StoresBelow C (store.Slot at node) = at < C

@@ -1,19 +1,20 @@
 // The rows of document 01's table, each by its own name: the access, then the local work. In a row's promise 0 stands for a number
 // that the row does not use.
 ghost use mathlib.Core.Path.{_≡_};
-ghost use Prim.Native.Nat.{_-_, _≤_, _<_};
-ghost use Rattle.queue.specs.RangeLaws.{InRange};
-ghost use Rattle.queue.specs.Step.{still as stillOf, resets, sameAge, rowOf};
+ghost use Prim.Native.Nat.{_≤_, _<_};
+ghost use Rattle.range.specs.inner.Facts.{InRange};
+ghost use Rattle.queue.specs.Step.{leaves as leavesOf, resets, sameAge, rowOf};
 use crate::Next;
-use crate::Stage;
 use crate::Stepped;
 use crate::Store;
-use crate::Word;
 use crate::tag::next_tag;
+use word::Stage;
+use word::Word;
+use word::stages::below;
 
-// A step that stores in no slot and is no reset.
-pub(crate) fn still(word: Word, next: Next) -> Stepped
-    ensures { λ r. ⌜ r ≡ stillOf word next ⌝ }
+// A step that leaves this word, stores in no slot and is no reset.
+pub(crate) fn leaves(word: Word, next: Next) -> Stepped
+    ensures { λ r. ⌜ r ≡ leavesOf word next ⌝ }
 {
     Stepped {
         word,
@@ -47,22 +48,15 @@ fn same_age(word: Word, t: u16, g: u16) -> bool
     (word.top == t) & (word.tag == g)
 }
 
-// What lies below b; 0 has nothing below it.
-pub(crate) fn below(b: u16) -> u16
-    ensures { λ r. ⌜ r ≡ b - 1 ⌝ }
-{
-    if b == 0 { 0 } else { b - 1 }
-}
-
 // Load bottom as b; b = C: return FULL.
 fn p1(size: u8, word: Word, node: u16) -> Stepped
     ensures { λ r. ⌜ r ≡ rowOf 0 size word 0 (Stage.P1 node) ⌝ }
 {
     let b = word.bottom;
     if b == size as u16 {
-        still(word, Next::Full)
+        leaves(word, Next::Full)
     } else {
-        still(word, Next::Going(Stage::P2 { node, b }))
+        leaves(word, Next::Going(Stage::P2 { node, b }))
     }
 }
 
@@ -84,7 +78,7 @@ fn p3(word: Word, b: u16) -> Stepped
     ensures { λ r. ⌜ r ≡ rowOf 0 0 word 0 (Stage.P3 b) ⌝ }
 {
     let bottom = b + 1;
-    still(Word { bottom, ..word }, Next::Done)
+    leaves(Word { bottom, ..word }, Next::Done)
 }
 
 // Load age as (t, g).
@@ -93,7 +87,7 @@ fn t1(word: Word) -> Stepped
 {
     let t = word.top;
     let g = word.tag;
-    still(word, Next::Going(Stage::T2 { t, g }))
+    leaves(word, Next::Going(Stage::T2 { t, g }))
 }
 
 // Load bottom as b; b ≤ t: return NIL.
@@ -102,9 +96,9 @@ fn t2(word: Word, t: u16, g: u16) -> Stepped
 {
     let b = word.bottom;
     if b <= t {
-        still(word, Next::Nil)
+        leaves(word, Next::Nil)
     } else {
-        still(word, Next::Going(Stage::T3 { t, g, b }))
+        leaves(word, Next::Going(Stage::T3 { t, g, b }))
     }
 }
 
@@ -112,7 +106,7 @@ fn t2(word: Word, t: u16, g: u16) -> Stepped
 fn t3(word: Word, x: u16, t: u16, g: u16, b: u16) -> Stepped
     ensures { λ r. ⌜ r ≡ rowOf 0 0 word x (Stage.T3 t g b) ⌝ }
 {
-    still(word, Next::Going(Stage::T4 { t, g, b, x }))
+    leaves(word, Next::Going(Stage::T4 { t, g, b, x }))
 }
 
 // If age is still (t, g), age becomes (t+1, g); changed: return the node; else NIL.
@@ -122,7 +116,7 @@ fn t4(word: Word, t: u16, g: u16, b: u16, x: u16) -> Stepped
 {
     if same_age(word, t, g) {
         let top = t + 1;
-        still(
+        leaves(
             Word {
                 top,
                 tag: g,
@@ -131,7 +125,7 @@ fn t4(word: Word, t: u16, g: u16, b: u16, x: u16) -> Stepped
             Next::Node(x),
         )
     } else {
-        still(word, Next::Nil)
+        leaves(word, Next::Nil)
     }
 }
 
@@ -141,9 +135,9 @@ fn b1(word: Word) -> Stepped
 {
     let b = word.bottom;
     if b == 0 {
-        still(word, Next::Nil)
+        leaves(word, Next::Nil)
     } else {
-        still(word, Next::Going(Stage::B2 { b }))
+        leaves(word, Next::Going(Stage::B2 { b }))
     }
 }
 
@@ -152,14 +146,14 @@ fn b2(word: Word, b: u16) -> Stepped
     ensures { λ r. ⌜ r ≡ rowOf 0 0 word 0 (Stage.B2 b) ⌝ }
 {
     let bottom = below(b);
-    still(Word { bottom, ..word }, Next::Going(Stage::B3 { b }))
+    leaves(Word { bottom, ..word }, Next::Going(Stage::B3 { b }))
 }
 
 // Load slot b−1.
 fn b3(word: Word, x: u16, b: u16) -> Stepped
     ensures { λ r. ⌜ r ≡ rowOf 0 0 word x (Stage.B3 b) ⌝ }
 {
-    still(word, Next::Going(Stage::B4 { b, x }))
+    leaves(word, Next::Going(Stage::B4 { b, x }))
 }
 
 // Load age as (t, g); b−1 > t: return the node.
@@ -169,9 +163,9 @@ fn b4(word: Word, b: u16, x: u16) -> Stepped
     let t = word.top;
     let g = word.tag;
     if t < below(b) {
-        still(word, Next::Node(x))
+        leaves(word, Next::Node(x))
     } else {
-        still(word, Next::Going(Stage::B5 { b, x, t, g }))
+        leaves(word, Next::Going(Stage::B5 { b, x, t, g }))
     }
 }
 
@@ -181,9 +175,9 @@ fn b5(word: Word, b: u16, x: u16, t: u16, g: u16) -> Stepped
 {
     let emptied = Word { bottom: 0, ..word };
     if below(b) == t {
-        still(emptied, Next::Going(Stage::B6 { b, x, t, g }))
+        leaves(emptied, Next::Going(Stage::B6 { b, x, t, g }))
     } else {
-        still(emptied, Next::Going(Stage::B7 { b, x, t, g }))
+        leaves(emptied, Next::Going(Stage::B7 { b, x, t, g }))
     }
 }
 
@@ -195,7 +189,7 @@ fn b6(width: u8, word: Word, b: u16, x: u16, t: u16, g: u16) -> Stepped
     if same_age(word, t, g) {
         reset(width, word, g, Next::Node(x))
     } else {
-        still(word, Next::Going(Stage::B7 { b, x, t, g }))
+        leaves(word, Next::Going(Stage::B7 { b, x, t, g }))
     }
 }
 
@@ -213,7 +207,7 @@ pub(crate) fn row(width: u8, size: u8, word: Word, loaded: u16, stage: Stage) ->
     ensures { λ r. ⌜ r ≡ rowOf width size word loaded stage ⌝ }
 {
     match stage {
-        Stage::Idle => still(word, Next::Going(Stage::Idle)),
+        Stage::Idle => leaves(word, Next::Going(Stage::Idle)),
         Stage::P1 { node } => p1(size, word, node),
         Stage::P2 { node, b } => p2(word, node, b),
         Stage::P3 { b } => p3(word, b),

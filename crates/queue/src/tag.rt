@@ -1,7 +1,7 @@
-// The tag beside the top index.
+// The tag beside the top index, after a reset.
 ghost use mathlib.Core.Path.{_≡_};
 ghost use Prim.Native.Nat.{_≤_};
-ghost use Rattle.queue.specs.Tag.{nextTag, isTag};
+ghost use Rattle.word.specs.Tag.{nextTag};
 
 // The tag after g, in width bits; at 16 bits it goes round as a u16 does.
 pub(crate) fn next_tag(width: u8, g: u16) -> u16
@@ -14,16 +14,5 @@ pub(crate) fn next_tag(width: u8, g: u16) -> u16
         up % tags
     } else {
         up
-    }
-}
-
-pub(crate) fn is_tag(width: u8, g: u16) -> bool
-    ensures { λ r. ⌜ r ≡ isTag width g ⌝ }
-{
-    if width < 16 {
-        let tags = 1u16 << width;
-        g < tags
-    } else {
-        true
     }
 }

@@ -10,8 +10,7 @@ use Rattle.log.specs.declared.Entry.{Entry}
 use Rattle.log.specs.declared.What.the-variants.{Pushed, Full, BottomNode, BottomNil, TopNode, TopNil}
 use Rattle.log.specs.Numbers.{push, bottomPop, topPop, nil, done, full, noMoment, kindOf, resultOf, what}
 use Rattle.rules.specs.Contents.{bears}
-use Rattle.rules.specs.Rules.{lastEnd, kindKnown, onOwnQueue, fullForPush, nilForPop, nodeUnlessNil}
-use Rattle.rules.specs.Rules.{keeps1, endsRise, startsAfter, clash, inCall, momentRight}
+use Rattle.rules.specs.Rules.{lastEnd, kindKnown, onOwnQueue, fullForPush, nilForPop, nodeUnlessNil, keeps1, endsRise, startsAfter, clash, inCall, momentRight}
 use Rattle.rules.specs.Accepted.{Rule1, Rule2, Rule3}
 use Rattle.base.proofs.Bools.{contra, and-i, and-0, and-1, or-l, or-r, if-so, so-if, not-i, not-e, not-f}
 

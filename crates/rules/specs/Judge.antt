@@ -1,12 +1,12 @@
 -- What the judge says of a log's bytes: document 01, "Numbers given back".
-use Prim.Native.Nat.{ℕ, _+_, _*_}
+use Prim.Native.Nat.{ℕ}
 use mathlib.Core.Bool.{Bool, cond, _&&_, not}
 use mathlib.Core.List.{List}
 use lib.ListN.{length}
 use lib.Dec.{eqb, ltb, leb}
 use Rattle.log.specs.declared.Entry.{Entry}
-use Rattle.log.specs.Decode.{sectionCountOf, processesOf, slotsOf, entryCountOf, entryAt}
-use Rattle.log.specs.Encode.{sectionCount}
+use Rattle.log.specs.Decode.{headLength, logLength, sectionCountOf, processesOf, slotsOf, entryCountOf, entryAt}
+use Rattle.log.specs.Encode.{sectionCount, mostEntries}
 use Rattle.rules.specs.declared.Verdict.{Verdict}
 use Rattle.rules.specs.Search.{first, lowest}
 use Rattle.rules.specs.Rules.{breaks1, breaks2, breaks3, breaks4, breaks5, breaks6}
@@ -53,13 +53,13 @@ rulesOf f n P C = orElse n 14 (first1 f n P) (orElse n 15 (first2 f n) (momentRu
 
 -- section 1's count, P (1 to 8) and C (1 to 64) are right, and there are at most 256 entries
 abbrev pub headRight : ℕ → ℕ → ℕ → ℕ → Bool
-headRight m P C n = eqb m sectionCount && leb 1 P && leb P 8 && leb 1 C && leb C 64 && leb n 256
+headRight m P C n = eqb m sectionCount && leb 1 P && leb P 8 && leb 1 C && leb C 64 && leb n mostEntries
 
 -- 11 for the head, 12, 11 for the entries, 13, then the rules; 0 and 11 to 13 give entry 0
 abbrev pub judgeOf : List ℕ → Verdict
 judgeOf bytes =
-    cond (ltb (length bytes) 5) (says 11 0)
+    cond (ltb (length bytes) headLength) (says 11 0)
     (cond (not (headRight (sectionCountOf bytes) (processesOf bytes) (slotsOf bytes) (entryCountOf bytes))) (says 12 0)
-    (cond (ltb (length bytes) (5 + 12 * entryCountOf bytes)) (says 11 0)
-    (cond (ltb (5 + 12 * entryCountOf bytes) (length bytes)) (says 13 0)
+    (cond (ltb (length bytes) (logLength (entryCountOf bytes))) (says 11 0)
+    (cond (ltb (logLength (entryCountOf bytes)) (length bytes)) (says 13 0)
     (rulesOf (entryAt bytes) (entryCountOf bytes) (processesOf bytes) (slotsOf bytes)))))

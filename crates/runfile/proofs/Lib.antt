@@ -5,6 +5,7 @@ pub mod CallLaws
 -- What number 0 says of a file, test by test, both ways; the reader's answer and the file.
 pub mod GoodLaws
 pub mod ReadingLaws
+pub mod NumberLaws
 -- What is read as good is in range, and its encoding is the bytes that were read.
 pub mod RangeLaws
 pub mod DecodeLaws

@@ -26,7 +26,7 @@ impl Shape {
         call_place(self.processes, self.calls) + 2
     }
 
-    pub fn schedule_end(self) -> usize
+    pub(crate) fn schedule_end(self) -> usize
         ensures { λ r. ⌜ (r ≡ stepPlace (self .processes) (self .calls) (self .steps)) × (r < 1100000) ⌝ }
     {
         self.schedule_place() + u16_to_usize(self.steps)

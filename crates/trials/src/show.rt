@@ -1,14 +1,10 @@
-// Runs a file, or judges a log, and prints a line about it.
-ghost use Prim.Native.Nat.{_≤_};
+// What a file or a log gives, on the line that its name began.
 use libc::STDOUT_FILENO;
+use runfile::Reading;
+use runfile::Shape;
 
-fn text(bytes: &[u8]) {
+pub(crate) fn text(bytes: &[u8]) {
     io::write_all(STDOUT_FILENO, bytes);
-}
-
-fn byte(word: &[u8], n: u8) {
-    text(word);
-    io::print_decimal(STDOUT_FILENO, n as u64);
 }
 
 fn number(word: &[u8], n: u16) {
@@ -16,39 +12,27 @@ fn number(word: &[u8], n: u16) {
     io::print_decimal(STDOUT_FILENO, n as u64);
 }
 
-fn all_bytes(bytes: &[u8]) {
+fn each(bytes: &[u8]) {
     let mut i: usize = 0;
     while i < bytes.len() {
-        byte(b" ", bytes[i]);
+        number(b" ", base::u8_to_u16(bytes[i]));
         i = i + 1;
     }
 }
 
 // What the judge says of a log.
-fn judged(log: &[u8]) {
+pub(crate) fn judged(log: &[u8]) {
     let verdict = judge::judge(log);
-    byte(b" judge ", verdict.number);
+    number(b" judge ", verdict.number as u16);
     number(b" entry ", verdict.entry);
 }
 
-pub(crate) fn log(name: &[u8], log: &[u8]) {
-    text(name);
-    judged(log);
-    text(b"\n");
+fn refused(n: u16) {
+    number(b" refused ", n);
 }
 
-// Runs a file with this buffer for its log. Of a file that is not refused it prints the counts, the judge's number and entry, bottom, top, tag and
-// first slot of queue 0, and the log's bytes.
-fn run_in(name: &[u8], file: &[u8], buffer: &mut [u8]) {
-    let mut report = [0u16; 4];
-    let mut table = [0u16; 536];
-    let log = bench::run(file, buffer, &mut report, &mut table);
-    text(name);
-    if report[0] != 0 {
-        number(b" refused ", report[0]);
-        text(b"\n");
-        return;
-    }
+// The counts, the judge's number and entry, bottom, top, tag and first slot of queue 0, and the log's bytes.
+fn ran(log: &[u8], report: [u16; 4], table: [u16; 536]) {
     number(b" entries ", report[1]);
     number(b" steps ", report[2]);
     number(b" gone-round ", report[3]);
@@ -58,19 +42,36 @@ fn run_in(name: &[u8], file: &[u8], buffer: &mut [u8]) {
     number(b" tag ", table[2]);
     number(b" slot ", table[3]);
     text(b" log");
-    all_bytes(log);
-    text(b"\n");
+    each(log);
 }
 
-// The same with room for so many bytes.
-pub(crate) fn run(name: &[u8], file: &[u8], room: usize)
-    requires { ⌜ room ≤ 3077 ⌝ }
-{
+// Runs a file with so many bytes of buffer for its log.
+pub(crate) fn run(file: &[u8], room: u16) {
     let mut buffer = [0u8; 3077];
-    run_in(name, file, &mut buffer[..room]);
+    let mut report = [0u16; 4];
+    let mut table = [0u16; 536];
+    let n = io::count(room as isize, &buffer);
+    let log = bench::run(file, &mut buffer[..n], &mut report, &mut table);
+    if report[0] != 0 {
+        refused(report[0]);
+        return;
+    }
+    ran(log, report, table);
 }
 
-// The same, with room for the longest log.
-pub(crate) fn file(name: &[u8], file: &[u8]) {
-    run(name, file, 3077);
+// W, C, P, and how many calls and steps a good file has.
+fn good(shape: Shape) {
+    text(b" good");
+    each(&[shape.width, shape.size, shape.processes]);
+    number(b" ", shape.calls);
+    number(b" ", shape.steps);
+}
+
+// Reads a file.
+pub(crate) fn read(file: &[u8]) {
+    let reading = runfile::read(file);
+    match reading {
+        Reading::Refused(n) => refused(n as u16),
+        Reading::Good(shape) => good(shape),
+    }
 }

@@ -5,26 +5,11 @@ use lib.ListN.{take, length}
 use lib.Seq.{length-take-le}
 use native.Mathlib.Omega.{arith}
 use borrow.Author.Needs.{needs}
-use Rattle.bench.specs.RunLaws.{put-same-length}
-use Rattle.bench.specs.FinishLaws.{copied}
+use Rattle.bench.proofs.RunLaws.{put-same-length}
+use Rattle.bench.proofs.FinishLaws.{copied}
 use Rattle.log.specs.Encode.{headBytes}
 use Rattle.bench.proofs.finish.Statement.{statement}
 use Rattle.bench.proofs.finish.Tie as tie
-
-put-head-requires : tie.Need-put-head-requires
-put-head-requires c κs = search needs
-
-cast-written : tie.Need-cast-written
-cast-written c = search needs
-
-mul-written : tie.Need-mul-written
-mul-written c = search needs
-
-add-written : tie.Need-add-written
-add-written c = search needs
-
-slice-reshare-prefix-copy : tie.Need-slice-reshare-prefix-copy
-slice-reshare-prefix-copy c = search needs
 
 slice-aggregate-copy : tie.Need-slice-aggregate-copy
 slice-aggregate-copy c = sym (length-take-le (5 + 12 * c .before .before .before .before .before .before .before .before .before .args .state .entries) (c .before .before .before .before .put-head .last .0) (omega (arith, c .before .before .before .before .before .before .before .before .before .pre .entries, (ap length (c .before .before .before .before .put-head .ensures) ∙ put-same-length 0 (headBytes (c .before .before .before .before .before .before .before .before .before .args .shape .processes) (c .before .before .before .before .before .before .before .before .before .args .shape .size) (c .before .before .before .before .before .before .before .before .before .args .state .entries)) (c .before .before .before .before .before .before .before .before .before .args .log .now) ∙ c .before .before .before .before .before .before .before .before .before .pre .whole-log))))
@@ -34,12 +19,6 @@ copy-requires c κs = omega (arith, c .before .before .before .before .before .b
 
 fill-requires : tie.Need-fill-requires
 fill-requires c κs = (c .before .before .before .before .before .before .before .before .before .before .before .before .before .before .before .pre .all-slots, c .before .before .before .before .before .before .before .before .before .before .before .before .before .before .before .pre .size, c .before .before .before .before .before .before .before .before .before .before .before .before .before .before .before .pre .processes, c .before .before .before .before .before .before .before .before .before .before .before .before .before .before .before .pre .counted .queues, search needs)
-
-same-length : tie.Need-same-length
-same-length c = search needs
-
-same-length-2 : tie.Need-same-length-2
-same-length-2 c = search needs
 
 returns : tie.Need-returns
 returns c = record {
@@ -54,14 +33,14 @@ pub finish-spec : {M : Type 1} → statement M
 finish-spec =
     tie.close
     (tie.spec
-    put-head-requires
-    cast-written
-    mul-written
-    add-written
-    slice-reshare-prefix-copy
+    (λ c κs. search needs)
+    (λ c. search needs)
+    (λ c. search needs)
+    (λ c. search needs)
+    (λ c. search needs)
     slice-aggregate-copy
     copy-requires
     fill-requires
-    same-length
-    same-length-2
+    (λ c. search needs)
+    (λ c. search needs)
     returns)

@@ -2,12 +2,9 @@
 use mathlib.Core.Path.{refl, sym, ap, _∙_}
 use lib.ListN.{length}
 use borrow.Author.Needs.{needs}
-use Rattle.bench.specs.FinishLaws.{front-is}
+use Rattle.bench.proofs.FinishLaws.{front-is}
 use Rattle.bench.proofs.run.Statement.{statement}
 use Rattle.bench.proofs.run.Tie as tie
-
-run-len-requires : tie.Need-run-len-requires
-run-len-requires c κs = search needs
 
 slice-aggregate-result : tie.Need-slice-aggregate-result
 slice-aggregate-result c = c .before .before .before .run-len .ensures .bytes ∙ sym (ap length (front-is _ (c .before .before .before .before .before .before .before .before .before .args .buffer .now) _ _ _ _ (c .before .before .before .run-len .ensures)))
@@ -16,4 +13,4 @@ returns : tie.Need-returns
 returns c = (record { part = (front-is _ (c .before .before .before .before .before .before .before .before .before .args .buffer .now) _ _ _ _ (c .before .before .before .run-len .ensures)); counts = c .before .before .before .run-len .ensures .counts; queues = c .before .before .before .run-len .ensures .queues }, refl)
 
 pub run-spec : {M : Type 1} → statement M
-run-spec = tie.close (tie.spec run-len-requires slice-aggregate-result returns)
+run-spec = tie.close (tie.spec (λ c κs. search needs) slice-aggregate-result returns)

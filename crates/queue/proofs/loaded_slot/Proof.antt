@@ -1,133 +1,45 @@
--- `loaded_slot` meets its contract.
+-- `loaded_slot` meets its contract. The stages that the last arm is left with load nothing.
+use Prim.Native.Nat.{ℕ}
+use mathlib.Core.Path.{_≡_, refl}
+use mathlib.Core.List.{List, [], _∷_}
+use denote.Enum.Declared.{tagOf}
+use types.Run.{OneOf, miss}
 use borrow.Author.Needs.{needs}
+use Rattle.word.specs.declared.Stage.{Stage}
+use Rattle.word.specs.declared.Stage.the-variants.{Idle, P1, P2, P3, T1, T2, T3, T4, B1, B2, B3, B4, B5, B6, B7}
+use Rattle.word.proofs.Stage.{the-type}
+use Rattle.queue.specs.Step.{loadedSlot}
+use Rattle.queue.specs.declared.Load.the-variants.{Nothing}
 use Rattle.queue.proofs.loaded_slot.Statement.{statement}
 use Rattle.queue.proofs.loaded_slot.Tie as tie
 
-enum-told : tie.Need-enum-told
-enum-told c = search needs
+abbrev left : List ℕ
+left = 0 ∷ 1 ∷ 2 ∷ 3 ∷ 4 ∷ 5 ∷ 7 ∷ 8 ∷ 9 ∷ 11 ∷ 12 ∷ 13 ∷ 14 ∷ []
 
-enum-told-2 : tie.Need-enum-told-2
-enum-told-2 c = search needs
-
-enum-told-3 : tie.Need-enum-told-3
-enum-told-3 c = search needs
-
-enum-told-4 : tie.Need-enum-told-4
-enum-told-4 c = search needs
-
-enum-told-5 : tie.Need-enum-told-5
-enum-told-5 c = search needs
-
-enum-told-6 : tie.Need-enum-told-6
-enum-told-6 c = search needs
-
-enum-known-stage : tie.Need-enum-known-stage
-enum-known-stage c = search needs
-
-enum-told-7 : tie.Need-enum-told-7
-enum-told-7 c = search needs
-
-enum-told-8 : tie.Need-enum-told-8
-enum-told-8 c = search needs
-
-enum-told-9 : tie.Need-enum-told-9
-enum-told-9 c = search needs
-
-enum-known-stage-2 : tie.Need-enum-known-stage-2
-enum-known-stage-2 c = search needs
-
-below-requires : tie.Need-below-requires
-below-requires c κs = search needs
-
-enum-told-10 : tie.Need-enum-told-10
-enum-told-10 c = search needs
-
-enum-told-11 : tie.Need-enum-told-11
-enum-told-11 c = search needs
-
-enum-told-12 : tie.Need-enum-told-12
-enum-told-12 c = search needs
-
-enum-told-13 : tie.Need-enum-told-13
-enum-told-13 c = search needs
-
-returns : tie.Need-returns
-returns c = rw (c .enum-told .given .1)
-
-returns-2 : tie.Need-returns-2
-returns-2 c = rw (c .enum-told2 .given .1)
-
-returns-3 : tie.Need-returns-3
-returns-3 c = rw (c .enum-told3 .given .1)
-
-returns-4 : tie.Need-returns-4
-returns-4 c = rw (c .enum-told4 .given .1)
-
-returns-5 : tie.Need-returns-5
-returns-5 c = rw (c .enum-told5 .given .1)
-
-returns-6 : tie.Need-returns-6
-returns-6 c = rw (c .enum-told6 .given .1)
-
-returns-7 : tie.Need-returns-7
-returns-7 c = rw (c .before .stage .given .1)
-
-returns-8 : tie.Need-returns-8
-returns-8 c = rw (c .enum-told7 .given .1)
-
-returns-9 : tie.Need-returns-9
-returns-9 c = rw (c .enum-told8 .given .1)
-
-returns-10 : tie.Need-returns-10
-returns-10 c = rw (c .enum-told9 .given .1)
-
-returns-11 : tie.Need-returns-11
-returns-11 c = rw (c .before .before .stage2 .given .1, c .below .ensures)
-
-returns-12 : tie.Need-returns-12
-returns-12 c = rw (c .enum-told10 .given .1)
-
-returns-13 : tie.Need-returns-13
-returns-13 c = rw (c .enum-told11 .given .1)
-
-returns-14 : tie.Need-returns-14
-returns-14 c = rw (c .enum-told12 .given .1)
-
-returns-15 : tie.Need-returns-15
-returns-15 c = rw (c .enum-told13 .given .1)
+rest : (s : Stage) → OneOf left (tagOf the-type s) → Nothing ≡ loadedSlot s
+rest Idle h = refl
+rest (P1 node) h = refl
+rest (P2 node b) h = refl
+rest (P3 b) h = refl
+rest T1 h = refl
+rest (T2 t g) h = refl
+rest (T3 t g b) h = absurd (miss left 6 tt h)
+rest (T4 t g b x) h = refl
+rest B1 h = refl
+rest (B2 b) h = refl
+rest (B3 b) h = absurd (miss left 10 tt h)
+rest (B4 b x) h = refl
+rest (B5 b x t g) h = refl
+rest (B6 b x t g) h = refl
+rest (B7 b x t g) h = refl
 
 pub loaded-slot-spec : {M : Type 1} → statement M
 loaded-slot-spec =
     tie.close
     (tie.spec
-    enum-told
-    enum-told-2
-    enum-told-3
-    enum-told-4
-    enum-told-5
-    enum-told-6
-    enum-known-stage
-    enum-told-7
-    enum-told-8
-    enum-told-9
-    enum-known-stage-2
-    below-requires
-    enum-told-10
-    enum-told-11
-    enum-told-12
-    enum-told-13
-    returns
-    returns-2
-    returns-3
-    returns-4
-    returns-5
-    returns-6
-    returns-7
-    returns-8
-    returns-9
-    returns-10
-    returns-11
-    returns-12
-    returns-13
-    returns-14
-    returns-15)
+    (λ c. search needs)
+    (λ c. search needs)
+    (λ c κs. search needs)
+    (λ c. rw (c .before .stage .given .1))
+    (λ c. rw (c .before .before .stage2 .given .1, c .below .ensures))
+    (λ c. rest (c .before .args .stage) (c .match .keys3)))

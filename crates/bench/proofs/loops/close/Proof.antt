@@ -7,10 +7,10 @@ use borrow.Author.Needs.{needs}
 use lib.ListN.{length, getD}
 use native.Mathlib.Omega.{arith}
 use Rattle.runfile.specs.File.{firstCalls}
-use Rattle.bench.specs.RunLaws.{Closing, along-length, closing-start, closing-next, closing-early, closing-all}
-use Rattle.bench.specs.Layout.{stateIn}
-use Rattle.bench.specs.TurnLaws.{calls-aimed}
-use Rattle.bench.specs.Half.{next-closed, run-closed, run-open}
+use Rattle.bench.proofs.RunLaws.{Closing, along-length, closing-start, closing-next, closing-early, closing-all}
+use Rattle.bench.specs.inner.Layout.{stateIn}
+use Rattle.bench.proofs.TurnLaws.{calls-aimed}
+use Rattle.bench.proofs.HalfLaws.{next-closed, run-closed, run-open}
 use Rattle.bench.proofs.loops.close.Statement.{statement}
 use Rattle.bench.proofs.loops.close.Tie as tie
 
@@ -45,9 +45,6 @@ returns c =
 cast-p : tie.Need-cast-p Inv-loop μ-loop
 cast-p c = omega (arith, trailing-le 8 (c .before .half-done .result))
 
-slice-aggregate-play : tie.Need-slice-aggregate-play Inv-loop μ-loop
-slice-aggregate-play c = search needs
-
 play-requires : tie.Need-play-requires Inv-loop μ-loop
 play-requires c κs =
     let s = c .before .before .before .before .before .before .before .before .before .before in
@@ -63,12 +60,6 @@ play-requires c κs =
       processes = s .pre .processes;
       below = alone (trailingZeros 8 set) (omega (arith, lowest));
     }
-
-add-done : tie.Need-add-done Inv-loop μ-loop
-add-done c = search needs
-
-loop-less : tie.Need-loop-less Inv-loop μ-loop
-loop-less c = search needs
 
 loop-again : tie.Need-loop-again Inv-loop μ-loop
 loop-again c =
@@ -104,10 +95,10 @@ close-spec =
     same-length-2
     returns
     cast-p
-    slice-aggregate-play
+    (λ c. search needs)
     play-requires
-    add-done
-    loop-less
+    (λ c. search needs)
+    (λ c. search needs)
     loop-again
     same-length-3
     same-length-4

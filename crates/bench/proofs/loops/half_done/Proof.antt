@@ -5,8 +5,9 @@ use borrow.Author.Needs.{needs}
 use native.Mathlib.Omega.{arith}
 use lib.ListN.{getD, drop}
 use Rattle.bench.specs.State.{nobody}
-use Rattle.queue.specs.Stages.{isIdle}
-use Rattle.bench.specs.Half.{halfDone, bit-most, half-fits, half-start, half-loop, half-all}
+use Rattle.word.specs.Stages.{isIdle}
+use Rattle.bench.specs.inner.Half.{halfDone}
+use Rattle.bench.proofs.HalfLaws.{bit-most, half-fits, half-start, half-loop, half-all}
 use Rattle.bench.proofs.loops.half_done.Statement.{statement}
 use Rattle.bench.proofs.loops.half_done.Tie as tie
 
@@ -19,26 +20,11 @@ abbrev μ-loop : tie.MeasureT-loop
 loop-holds : tie.Need-loop-holds Inv-loop μ-loop
 loop-holds c = (omega arith, half-start (c .args .t1 .processes) (c .pre))
 
-sub-i : tie.Need-sub-i Inv-loop μ-loop
-sub-i c = search needs
-
-mul-of : tie.Need-mul-of Inv-loop μ-loop
-mul-of c = search needs
-
-element-copy-out-of : tie.Need-element-copy-out-of Inv-loop μ-loop
-element-copy-out-of c = search needs
-
-bit-requires : tie.Need-bit-requires Inv-loop μ-loop
-bit-requires c κs = search needs
-
 mul-set : tie.Need-mul-set Inv-loop μ-loop
 mul-set c = omega (arith, half-fits _ (c .before .before .before .before .pre) _ _ (c .before .before .before .loop .inv .1) (c .before .before .loop-test .taken))
 
 add-set : tie.Need-add-set Inv-loop μ-loop
 add-set c = omega (arith, half-fits _ (c .before .before .before .before .pre) _ _ (c .before .before .before .loop .inv .1) (c .before .before .loop-test .taken), c .bit .ensures, bit-most (isIdle (getD (c .before .before .before .before .args .t1 .processes) (c .before .before .before .loop .i - 1) nobody .stage)))
-
-loop-less : tie.Need-loop-less Inv-loop μ-loop
-loop-less c = search needs
 
 loop-again : tie.Need-loop-again Inv-loop μ-loop
 loop-again c = (omega arith, half-loop _ (c .before .before .before .before .pre) _ _ _ (c .before .before .before .loop .inv .1) (c .before .before .loop-test .taken) (c .before .before .before .loop .inv .0) (c .bit .ensures))
@@ -53,12 +39,12 @@ half-done-spec =
     Inv-loop
     μ-loop
     loop-holds
-    sub-i
-    mul-of
-    element-copy-out-of
-    bit-requires
+    (λ c. search needs)
+    (λ c. search needs)
+    (λ c. search needs)
+    (λ c κs. search needs)
     mul-set
     add-set
-    loop-less
+    (λ c. search needs)
     loop-again
     returns)

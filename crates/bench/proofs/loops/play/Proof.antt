@@ -10,10 +10,10 @@ use Rattle.bench.specs.State.{processAt}
 use Rattle.bench.specs.Turn.{ready}
 use Rattle.bench.specs.declared.Bench.{Bench}
 use Rattle.bench.specs.declared.Process.{Process}
-use Rattle.bench.specs.RunLaws.{Played, played-start, played-next, played-all, along-length}
-use Rattle.bench.specs.LayoutLaws.{back-counted, queue-counted, turn-idles, turn-acts, moved-more, moved-gone, moves-become}
-use Rattle.bench.specs.Layout.{stateIn, Counted, ToPlay}
-use Rattle.bench.specs.TurnLaws.{calls-aimed}
+use Rattle.bench.proofs.RunLaws.{Played, played-start, played-next, played-all, along-length}
+use Rattle.bench.proofs.LayoutLaws.{back-counted, queue-counted, turn-idles, turn-acts, moved-more, moved-gone, moves-become}
+use Rattle.bench.specs.inner.Layout.{stateIn, Counted, ToPlay}
+use Rattle.bench.proofs.TurnLaws.{calls-aimed}
 use Rattle.runfile.specs.File.{firstCalls}
 use Rattle.runfile.specs.declared.Call.{Call}
 use Rattle.runfile.specs.declared.Shape.{Shape}
@@ -44,9 +44,6 @@ loop-holds c =
     let s = c .before .before .before .before in
     (omega arith, s .pre .all-slots, played-start _ _ (callsOf (s .args .file .now) (s .args .shape)) (s .args .schedule .now) _ _ _ (s .pre .counted))
 
-shared-slice-read-p : tie.Need-shared-slice-read-p Inv-loop μ-loop
-shared-slice-read-p c = search needs
-
 cast-at : tie.Need-cast-at Inv-loop μ-loop
 cast-at c = omega (arith, c .shared-slice-known3 .given (c .before .before .loop .i))
 
@@ -56,17 +53,8 @@ mul-waiting c = omega (arith, c .before .before .before .before .before .before 
 element-copy-out-waiting : tie.Need-element-copy-out-waiting Inv-loop μ-loop
 element-copy-out-waiting c = c .before .before .before .before .before .before .before .pre .below (c .before .before .loop .i) (c .before .loop-test .taken)
 
-ready-requires : tie.Need-ready-requires Inv-loop μ-loop
-ready-requires c κs = search needs
-
 add-after : tie.Need-add-after Inv-loop μ-loop
 add-after c = omega (arith, c .before .before .before .before .loop .inv, c .before .before .before .loop-test .taken, c .before .before .before .before .before .before .before .before .before .pre .few)
-
-add-i : tie.Need-add-i Inv-loop μ-loop
-add-i c = search needs
-
-is-idle-requires : tie.Need-is-idle-requires Inv-loop μ-loop
-is-idle-requires c κs = search needs
 
 loop-less : tie.Need-loop-less Inv-loop μ-loop
 loop-less c = omega (arith, c .before .before .before .before .before .loop-test .taken)
@@ -83,20 +71,8 @@ loop-again c =
           (turn-idles calls p (l .after) (processAt (l .after) p) (c .before .before .ready .result) refl (c .before .before .ready .ensures) _ _ _ _ _ (sym (c .before .is-idle .ensures) ∙ c .if1 .taken) refl),
     )
 
-queue-of-requires : tie.Need-queue-of-requires Inv-loop μ-loop
-queue-of-requires c κs = search needs
-
-cast-on : tie.Need-cast-on Inv-loop μ-loop
-cast-on c = search needs
-
-mul-before : tie.Need-mul-before Inv-loop μ-loop
-mul-before c = search needs
-
 element-copy-out-before : tie.Need-element-copy-out-before Inv-loop μ-loop
 element-copy-out-before c = on-queue-of (c .before .before .before .before .before .before .before .before .before .before .before .before .args .file .now) (c .before .before .before .before .before .before .before .before .before .before .before .before .args .shape) (c .before .before .before .before .before .before .before .before .before .before .before .before .args .schedule .now) (c .before .before .before .before .before .before .before .before .before .before .before .before .pre) (c .before .before .before .before .before .before .before .loop .i) (c .before .before .before .before .before .before .loop-test .taken) (c .before .before .before .before .before .before .before .loop .after) (c .before .before .before .before .before .before .before .loop .inv .2 .0 .counted) _ (c .before .before .before .ready .ensures) _ (c .queue-of .ensures)
-
-mul-owner : tie.Need-mul-owner Inv-loop μ-loop
-mul-owner c = search needs
 
 element-copy-out-owner : tie.Need-element-copy-out-owner Inv-loop μ-loop
 element-copy-out-owner c = on-queue-of (c .before .before .before .before .before .before .before .before .before .before .before .before .before .args .file .now) (c .before .before .before .before .before .before .before .before .before .before .before .before .before .args .shape) (c .before .before .before .before .before .before .before .before .before .before .before .before .before .args .schedule .now) (c .before .before .before .before .before .before .before .before .before .before .before .before .before .pre) (c .before .before .before .before .before .before .before .before .loop .i) (c .before .before .before .before .before .before .before .loop-test .taken) (c .before .before .before .before .before .before .before .before .loop .after) (c .before .before .before .before .before .before .before .before .loop .inv .2 .0 .counted) _ (c .before .before .before .before .ready .ensures) _ (c .before .queue-of .ensures)
@@ -117,9 +93,6 @@ moves-requires c κs =
       on-queue-of (s .args .file .now) (s .args .shape) (s .args .schedule .now) (s .pre) (l .i) few (l .after) counted _ (c .before .before .before .before .before .before .before .ready .ensures) _ refl,
       s .pre .size,
     )
-
-mul-changed : tie.Need-mul-changed Inv-loop μ-loop
-mul-changed c = search needs
 
 element-set-from-changed : tie.Need-element-set-from-changed Inv-loop μ-loop
 element-set-from-changed c = on-queue-of (c .before .before .before .before .before .before .before .before .before .before .before .before .before .before .before .before .before .before .before .before .before .before .before .args .file .now) (c .before .before .before .before .before .before .before .before .before .before .before .before .before .before .before .before .before .before .before .before .before .before .before .args .shape) (c .before .before .before .before .before .before .before .before .before .before .before .before .before .before .before .before .before .before .before .before .before .before .before .args .schedule .now) (c .before .before .before .before .before .before .before .before .before .before .before .before .before .before .before .before .before .before .before .before .before .before .before .pre) (c .before .before .before .before .before .before .before .before .before .before .before .before .before .before .before .before .before .before .loop .i) (c .before .before .before .before .before .before .before .before .before .before .before .before .before .before .before .before .before .loop-test .taken) (c .before .before .before .before .before .before .before .before .before .before .before .before .before .before .before .before .before .before .loop .after) (c .before .before .before .before .before .before .before .before .before .before .before .before .before .before .before .before .before .before .loop .inv .2 .0 .counted) _ (c .before .before .before .before .before .before .before .before .before .before .before .before .before .before .ready .ensures) _ (c .before .before .before .before .before .before .before .before .before .before .before .queue-of .ensures)
@@ -170,24 +143,24 @@ play-spec =
     Inv-loop
     μ-loop
     loop-holds
-    shared-slice-read-p
+    (λ c. search needs)
     cast-at
     mul-waiting
     element-copy-out-waiting
-    ready-requires
+    (λ c κs. search needs)
     add-after
-    add-i
-    is-idle-requires
+    (λ c. search needs)
+    (λ c κs. search needs)
     loop-less
     loop-again
-    queue-of-requires
-    cast-on
-    mul-before
+    (λ c κs. search needs)
+    (λ c. search needs)
+    (λ c. search needs)
     element-copy-out-before
-    mul-owner
+    (λ c. search needs)
     element-copy-out-owner
     moves-requires
-    mul-changed
+    (λ c. search needs)
     element-set-from-changed
     mul-process
     element-set-from-process

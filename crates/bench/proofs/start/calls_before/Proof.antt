@@ -1,15 +1,9 @@
 -- `start::calls_before` meets its contract.
 use mathlib.Core.Path.{sym, _∙_}
 use borrow.Author.Needs.{needs}
-use Rattle.bench.specs.TableLaws.{shares-below, shares-past}
+use Rattle.bench.proofs.TableLaws.{shares-below, shares-past}
 use Rattle.bench.proofs.start.calls_before.Statement.{statement}
 use Rattle.bench.proofs.start.calls_before.Tie as tie
-
-calls-before-requires : tie.Need-calls-before-requires
-calls-before-requires c κs = search needs
-
-calls-before-requires-2 : tie.Need-calls-before-requires-2
-calls-before-requires-2 c κs = search needs
 
 returns : tie.Need-returns
 returns c = c .calls-before .ensures ∙ sym (shares-below (c .before .before .before .args .file .now) _ _ (c .before .if1 .taken))
@@ -19,4 +13,4 @@ returns-2 c = c .calls-before2 .ensures ∙ sym (shares-past (c .before .before 
 
 pub calls-before-spec : {M : Type 1} → statement M
 calls-before-spec =
-    tie.close (tie.spec calls-before-requires calls-before-requires-2 returns returns-2)
+    tie.close (tie.spec (λ c κs. search needs) (λ c κs. search needs) returns returns-2)

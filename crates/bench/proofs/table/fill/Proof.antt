@@ -4,10 +4,10 @@ use mathlib.Core.Path.{_≡_, refl, sym, _∙_}
 use borrow.Author.Needs.{needs}
 use lib.ListN.{length, take, length-set}
 use native.Mathlib.Omega.{arith}
-use Rattle.bench.specs.TableLaws.{filled-next, filled}
+use Rattle.bench.proofs.TableLaws.{filled-next, filled}
 use Rattle.bench.specs.Run.{tableAt}
-use Rattle.bench.specs.Layout.{slotsIn}
-use Rattle.log.specs.Encode.{listOf}
+use Rattle.bench.specs.inner.Layout.{slotsIn}
+use Rattle.base.specs.Lists.{listOf}
 use Rattle.bench.proofs.table.fill.Statement.{statement}
 use Rattle.bench.proofs.table.fill.Tie as tie
 
@@ -21,17 +21,11 @@ abbrev μ-loop : tie.MeasureT-loop
 loop-holds : tie.Need-loop-holds Inv-loop μ-loop
 loop-holds c = (omega arith, c .before .before .pre .4, refl)
 
-mul-queue : tie.Need-mul-queue Inv-loop μ-loop
-mul-queue c = search needs
-
 element-copy-out-queue : tie.Need-element-copy-out-queue Inv-loop μ-loop
 element-copy-out-queue c = omega (arith, c .loop-test .taken)
 
 in-table-requires : tie.Need-in-table-requires Inv-loop μ-loop
 in-table-requires c κs = (c .before .before .before .before .before .before .pre .0, c .before .before .before .before .before .before .pre .1, c .before .before .before .before .before .before .pre .2)
-
-mul-table : tie.Need-mul-table Inv-loop μ-loop
-mul-table c = search needs
 
 slice-write-table : tie.Need-slice-write-table Inv-loop μ-loop
 slice-write-table c = omega (arith, c .before .before .before .before .loop .inv .1, c .before .before .before .loop-test .taken)
@@ -68,10 +62,10 @@ fill-spec =
     Inv-loop
     μ-loop
     loop-holds
-    mul-queue
+    (λ c. search needs)
     element-copy-out-queue
     in-table-requires
-    mul-table
+    (λ c. search needs)
     slice-write-table
     add-k
     loop-less

@@ -1,32 +1,8 @@
 -- `table::in_row` meets its contract.
 use borrow.Author.Needs.{needs}
-use Rattle.bench.specs.TableLaws.{row-slot, row-end}
+use Rattle.bench.proofs.TableLaws.{row-slot, row-end}
 use Rattle.bench.proofs.table.in_row.Statement.{statement}
 use Rattle.bench.proofs.table.in_row.Tie as tie
-
-returns : tie.Need-returns
-returns c = search needs
-
-returns-2 : tie.Need-returns-2
-returns-2 c = search needs
-
-returns-3 : tie.Need-returns-3
-returns-3 c = search needs
-
-sub-at : tie.Need-sub-at
-sub-at c = search needs
-
-mul-result : tie.Need-mul-result
-mul-result c = search needs
-
-add-result : tie.Need-add-result
-add-result c = search needs
-
-mul-result-2 : tie.Need-mul-result-2
-mul-result-2 c = search needs
-
-shared-slice-read-result : tie.Need-shared-slice-read-result
-shared-slice-read-result c = search needs
 
 returns-4 : tie.Need-returns-4
 returns-4 c = row-slot (c .before .before .before .before .before .args .word) (c .before .before .before .before .before .args .size) (c .before .before .before .before .before .args .slots .now) (c .before .before .before .before .before .args .q) (c .before .before .before .before .before .args .i) (c .before .before .before .before .if1 .left) (c .before .before .before .if2 .left) (c .before .before .if3 .left) (c .before .if4 .taken)
@@ -38,13 +14,13 @@ pub in-row-spec : {M : Type 1} → statement M
 in-row-spec =
     tie.close
     (tie.spec
-    returns
-    returns-2
-    returns-3
-    sub-at
-    mul-result
-    add-result
-    mul-result-2
-    shared-slice-read-result
+    (λ c. search needs)
+    (λ c. search needs)
+    (λ c. search needs)
+    (λ c. search needs)
+    (λ c. search needs)
+    (λ c. search needs)
+    (λ c. search needs)
+    (λ c. search needs)
     returns-4
     returns-5)

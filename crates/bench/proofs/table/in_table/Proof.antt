@@ -1,12 +1,9 @@
 -- `table::in_table` meets its contract.
 use mathlib.Core.Path.{_∙_}
 use borrow.Author.Needs.{needs}
-use Rattle.bench.specs.TableLaws.{table-in, table-past}
+use Rattle.bench.proofs.TableLaws.{table-in, table-past}
 use Rattle.bench.proofs.table.in_table.Statement.{statement}
 use Rattle.bench.proofs.table.in_table.Tie as tie
-
-in-row-requires : tie.Need-in-row-requires
-in-row-requires c κs = search needs
 
 returns : tie.Need-returns
 returns c =
@@ -19,4 +16,4 @@ returns-2 c =
     table-past (s .args .processes) (s .args .size) (s .args .word) (s .args .slots .now) (s .args .q) (s .args .i) (c .if1 .left)
 
 pub in-table-spec : {M : Type 1} → statement M
-in-table-spec = tie.close (tie.spec in-row-requires returns returns-2)
+in-table-spec = tie.close (tie.spec (λ c κs. search needs) returns returns-2)

@@ -1,15 +1,9 @@
 -- `turn::ready` meets its contract.
 use native.Mathlib.Omega.{arith}
 use borrow.Author.Needs.{needs}
-use Rattle.bench.specs.TurnLaws.{begins}
+use Rattle.bench.proofs.TurnLaws.{begins}
 use Rattle.bench.proofs.turn.ready.Statement.{statement}
 use Rattle.bench.proofs.turn.ready.Tie as tie
-
-is-idle-requires : tie.Need-is-idle-requires
-is-idle-requires c κs = search needs
-
-call-in-requires : tie.Need-call-in-requires
-call-in-requires c κs = search needs
 
 begun-requires : tie.Need-begun-requires
 begun-requires c κs = omega (arith, begins (c .before .before .before .is-idle .result) (c .before .before .before .before .before .args .of .next) (c .before .before .before .before .before .args .of .stop) (c .before .if1 .taken))
@@ -22,4 +16,4 @@ returns-2 c = rw (← c .before .before .is-idle .ensures, c .if1 .left)
 
 pub ready-spec : {M : Type 1} → statement M
 ready-spec =
-    tie.close (tie.spec is-idle-requires call-in-requires begun-requires returns returns-2)
+    tie.close (tie.spec (λ c κs. search needs) (λ c κs. search needs) begun-requires returns returns-2)

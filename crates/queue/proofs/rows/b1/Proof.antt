@@ -1,14 +1,8 @@
 -- `rows::b1` meets its contract.
 use borrow.Author.Needs.{needs}
-use Rattle.queue.specs.Tests.{tests}
+use Rattle.base.proofs.Tests.{tests}
 use Rattle.queue.proofs.rows.b1.Statement.{statement}
 use Rattle.queue.proofs.rows.b1.Tie as tie
-
-still-requires : tie.Need-still-requires
-still-requires c κs = search needs
-
-still-requires-2 : tie.Need-still-requires-2
-still-requires-2 c κs = search needs
 
 returns : tie.Need-returns
 returns c = search (needs, tests)
@@ -17,4 +11,4 @@ returns-2 : tie.Need-returns-2
 returns-2 c = search (needs, tests)
 
 pub b1-spec : {M : Type 1} → statement M
-b1-spec = tie.close (tie.spec still-requires still-requires-2 returns returns-2)
+b1-spec = tie.close (tie.spec (λ c κs. search needs) (λ c κs. search needs) returns returns-2)

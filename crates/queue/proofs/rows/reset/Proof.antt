@@ -3,11 +3,8 @@ use borrow.Author.Needs.{needs}
 use Rattle.queue.proofs.rows.reset.Statement.{statement}
 use Rattle.queue.proofs.rows.reset.Tie as tie
 
-next-tag-requires : tie.Need-next-tag-requires
-next-tag-requires c κs = search needs
-
 returns : tie.Need-returns
 returns c = rw (c .next-tag .ensures)
 
 pub reset-spec : {M : Type 1} → statement M
-reset-spec = tie.close (tie.spec next-tag-requires returns)
+reset-spec = tie.close (tie.spec (λ c κs. search needs) returns)

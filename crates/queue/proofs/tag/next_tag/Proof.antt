@@ -1,14 +1,8 @@
 -- `tag::next_tag` meets its contract.
 use borrow.Author.Needs.{needs}
-use Rattle.queue.specs.TagLaws.{tags-pos, next-narrow, next-wide}
+use Rattle.word.proofs.TagLaws.{tags-pos, next-narrow, next-wide}
 use Rattle.queue.proofs.tag.next_tag.Statement.{statement}
 use Rattle.queue.proofs.tag.next_tag.Tie as tie
-
-wrapping-add-u16-requires : tie.Need-wrapping-add-u16-requires
-wrapping-add-u16-requires c κs = search needs
-
-shl-tags : tie.Need-shl-tags
-shl-tags c = search needs
 
 rem-result : tie.Need-rem-result
 rem-result c = search (needs, tags-pos)
@@ -21,4 +15,4 @@ returns-2 c = search (needs, next-wide)
 
 pub next-tag-spec : {M : Type 1} → statement M
 next-tag-spec =
-    tie.close (tie.spec wrapping-add-u16-requires shl-tags rem-result returns returns-2)
+    tie.close (tie.spec (λ c κs. search needs) (λ c. search needs) rem-result returns returns-2)

@@ -1,0 +1,286 @@
+-- The program's run of a good file is the run of its record, from the start to the closing.
+use Prim.Native.Nat.{ℕ, zero, suc, _+_, _-_, _*_, _≤_, _<_}
+use mathlib.Core.Path.{_≡_, refl, sym, ap, _∙_, subst}
+use mathlib.Core.Bool.{Bool, true, false, cond}
+use mathlib.Core.List.{List, [], _∷_, append-assoc, append-nil}
+use native.Mathlib.Omega.{arith}
+use lib.Dec.{ltb}
+use lib.ListN.{length, getD, take, drop, replicate, length-replicate, getD-replicate, length-drop, List·getD-eq-default}
+use lib.Seq.{ext-getD, getD-take, getD-drop, length-take-le}
+use native.Mathlib.Decide.{decLt}
+use borrow.Author.Tests.{le-ltb, lt-ltb}
+use Rattle.base.specs.Lists.{listOf}
+use Rattle.base.proofs.Lists.{listOf-getD}
+use Rattle.runfile.specs.Encode.{InRanges}
+use Rattle.base.specs.Bytes.{Bytes}
+use Rattle.runfile.specs.File.{RunFile, good, fileOf, readingOf, shapeOf, recordIn, processesIn, callsIn, stepsIn, stepPlace, firstLengths, firstCalls}
+use Rattle.runfile.proofs.GoodLaws.{good-passes, shares-length, all-calls-length, schedule-length}
+use Rattle.runfile.proofs.RangeLaws.{good-ranges, calls-most}
+use Rattle.runfile.proofs.ReadingLaws.{reading-good, reading-refused}
+use Rattle.runfile.specs.declared.Call.{Call}
+use Rattle.runfile.specs.declared.Reading.the-variants.{Refused, Good}
+use Rattle.runfile.specs.declared.Shape.{Shape}
+use Rattle.bench.proofs.ClosingLaws.{schedule-steps}
+use Rattle.bench.proofs.EntriesLaws.{entries-most}
+use Rattle.bench.proofs.FinishLaws.{finished-gives}
+use Rattle.bench.proofs.Induction.{play-keeps, closed-keeps}
+use Rattle.bench.specs.inner.Layout.{slotsOf, slotsIn, stateIn, Becomes, aim, Aimed, Counted, ToPlay, ToClose}
+use Rattle.bench.specs.Promise.{Gives, Ran}
+use Rattle.bench.specs.inner.Finish.{Finishes, Ends}
+use Rattle.bench.specs.Run.{Outcome, play, lowest, close, closed, closingSteps, tableSize, refusal, finished, ranAs, outcome, runOf, closingStep, played}
+use Rattle.bench.proofs.RunLaws.{bare, later, act-later, Logged, act-logged, turn-logged, becomes-next}
+use Rattle.bench.specs.State.{State, fresh, nobody, processAt, scripted, startBench, start}
+use Rattle.bench.specs.Turn.{act, turn}
+use Rattle.bench.proofs.TurnLaws.{counted-act, calls-aimed, counted-turn}
+use Rattle.bench.specs.declared.Bench.{Bench}
+use Rattle.bench.specs.declared.Process.{Process}
+use Rattle.bench.specs.declared.Queue.{Queue}
+
+-- the closing does not look at the log either
+later-later : (s a x : State) → later (later s a) x ≡ later s (later a x)
+later-later s a x = λ i. record { bench = x .bench; slots = x .slots; log = append-assoc (s .log) (a .log) (x .log) i }
+
+later-none : (s : State) → s ≡ later s (bare s)
+later-none s = λ i. record { bench = s .bench; slots = s .slots; log = sym (append-nil (s .log)) i }
+
+close-later : (W C k : ℕ) (s : State) → close W C k s ≡ later s (close W C k (bare s))
+unfolding close
+close-later W C zero s = later-none s
+close-later W C (suc k) s = by-test (ltb (lowest (s .bench .processes)) 8) refl (close-later W C k)
+  where
+    by-test : (t : Bool) → ltb (lowest (s .bench .processes)) 8 ≡ t → ((x : State) → close W C k x ≡ later x (close W C k (bare x))) → close W C (suc k) s ≡ later s (close W C (suc k) (bare s))
+    by-test true e more =
+        let p = lowest (s .bench .processes) in
+        let r = processAt (s .bench) p in
+        let a = act W C p r (bare s) in
+        rw e (ap (close W C k) (act-later W C p r s) ∙ more (later s a) ∙ later-later s a (close W C k (bare a)) ∙ ap (later s) (sym (more a)))
+    by-test false e more = rw e (later-none s)
+
+-- what a run keeps
+abbrev Kept : ℕ → State → Type 0
+Kept n s = Logged 0 s × Counted (s .bench)
+
+turn-kept : (W C : ℕ) (calls : List Call) → Aimed calls → (n p : ℕ) (s : State) → Kept n s → Kept (suc n) (turn W C calls p s)
+turn-kept W C calls aimed n p s h = (turn-logged 0 W C calls p s (h .0), counted-turn W C calls aimed p s (h .1))
+
+closing-kept : (W C n : ℕ) (s : State) → lowest (s .bench .processes) < 8 → Kept n s → Kept (suc n) (closingStep W C s)
+closing-kept W C n s l h =
+    let p = lowest (s .bench .processes) in
+    (act-logged 0 W C p (processAt (s .bench) p) s (h .0), counted-act W C p (processAt (s .bench) p) s (h .1) (h .1 .back p) (h .1 .aims p))
+
+-- at the start all counts are 0
+pub start-counted : (shares : List ℕ) → Counted (startBench shares)
+start-counted shares = record {
+  queues = refl;
+  processes = refl;
+  entries = omega arith;
+  gone = omega arith;
+  resets = λ q. all q (decLt q 8);
+  back = λ p. idle p (decLt p 8) .0;
+  aims = λ p. idle p (decLt p 8) .1;
+}
+  where
+    all : (q : ℕ) → Dec (q < 8) → getD (replicate 8 fresh) q fresh .resets ≤ 0
+    all q (yes h) = subst (λ (m : Queue). m .resets ≤ 0) (sym (getD-replicate 8 q fresh fresh h)) (omega arith)
+    all q (no h) = subst (λ (m : Queue). m .resets ≤ 0) (sym (List·getD-eq-default (replicate 8 fresh) fresh {n = q} (omega arith))) (omega arith)
+
+    Waits : Process → Type 0
+    Waits r = (r .back ≤ 0) × (aim (r .call) < 8)
+
+    idle : (p : ℕ) → Dec (p < 8) → Waits (getD (listOf 8 (scripted shares)) p nobody)
+    idle p (yes h) = subst Waits (sym (listOf-getD 8 (scripted shares) nobody p h)) (omega arith, omega arith)
+    idle p (no h) = subst Waits (sym (List·getD-eq-default (listOf 8 (scripted shares)) nobody {n = p} (omega arith))) (omega arith, omega arith)
+
+played-kept : (f : RunFile) → Aimed (f .calls) → Kept 0 (played f)
+played-kept f aimed = play-keeps Kept (f .width) (f .size) (f .calls) (turn-kept (f .width) (f .size) (f .calls) aimed) (f .schedule) 0 (start f) (refl, start-counted (f .shares))
+
+closed-kept : (f : RunFile) → Aimed (f .calls) → Kept 0 (closed f)
+closed-kept f aimed = closed-keeps f Kept (turn-kept (f .width) (f .size) (f .calls) aimed) (closing-kept (f .width) (f .size)) (refl, start-counted (f .shares)) .holds
+
+-- a refusal gives what is promised of it
+pub refusal-gives : (o : Outcome) (n : ℕ) (buffer : List ℕ) (written : ℕ) (report table : List ℕ) → o ≡ refusal n
+    → (written ≡ 0) × (report ≡ n ∷ 0 ∷ 0 ∷ 0 ∷ []) × (table ≡ replicate tableSize 0) → Gives o buffer written buffer report table
+refusal-gives o n buffer written report table e h =
+    subst (λ (x : Outcome). Gives x buffer written buffer report table) (sym e) (record { bytes = h .0; kept = refl; counts = h .1; queues = h .2 })
+
+-- the row of zeros holds C zeros for each queue
+zeros : (C k n : ℕ) → k + C ≤ n → take C (drop k (replicate {A = ℕ} n 0)) ≡ replicate C 0
+zeros C k n h =
+    let whole = length-replicate {A = ℕ} n 0 in
+    let l : length (take C (drop k (replicate {A = ℕ} n 0))) ≡ C = length-take-le C (drop k (replicate {A = ℕ} n 0)) (simp length-drop (omega arith)) in
+    ext-getD 0 (take C (drop k (replicate {A = ℕ} n 0))) (replicate C 0) (l ∙ sym (length-replicate C 0))
+    (λ i m. getD-take C (drop k (replicate {A = ℕ} n 0)) i 0 (omega arith) ∙ getD-drop k (replicate {A = ℕ} n 0) i 0
+    ∙ getD-replicate n (k + i) 0 0 (omega arith) ∙ sym (getD-replicate C i 0 0 (omega arith)))
+
+slots-start : (C : ℕ) → C ≤ 64 → slotsIn C (replicate 512 0) ≡ replicate 8 (replicate C 0)
+slots-start C h = λ i. row 0 (omega arith) i ∷ row 1 (omega arith) i ∷ row 2 (omega arith) i ∷ row 3 (omega arith) i ∷ row 4 (omega arith) i ∷ row 5 (omega arith) i ∷ row 6 (omega arith) i ∷ row 7 (omega arith) i ∷ []
+  where
+    row : (q : ℕ) → q < 8 → slotsOf C (replicate 512 0) q ≡ replicate C 0
+    row q k = zeros C (64 * q) 512 (omega arith)
+
+-- of the bytes of a good file
+module _ (s : List ℕ) (bytes : Bytes s) (shape : Shape) (e : readingOf (fileOf s) ≡ Good shape) where
+  abbrev f : RunFile
+  f = recordIn s
+
+  is-good : fileOf s ≡ good (recordIn s)
+  is-good = reading-good s shape e .0
+
+  pub is-shape : shape ≡ shapeOf (recordIn s)
+  is-shape = reading-good s shape e .1
+
+  pub in-ranges : InRanges (recordIn s)
+  in-ranges = good-ranges s (recordIn s) bytes is-good
+
+  processes : length (f .shares) ≡ processesIn s
+  processes = shares-length s (good-passes s f is-good .0)
+
+  calls : length (f .calls) ≡ callsIn s
+  calls = all-calls-length s (good-passes s f is-good .0)
+
+  shares-are : firstLengths s (shape .processes) ≡ f .shares
+  shares-are = ap (λ (x : Shape). firstLengths s (x .processes)) is-shape ∙ ap (firstLengths s) processes
+
+  calls-are : firstCalls s (shape .processes) (shape .calls) ≡ f .calls
+  calls-are =
+      ap (λ (x : Shape). firstCalls s (x .processes) (x .calls)) is-shape
+      ∙ ap (λ (n : ℕ). firstCalls s n (length (f .calls))) processes ∙ ap (firstCalls s (processesIn s)) calls
+
+  aimed : Aimed (f .calls)
+  aimed = calls-aimed s (processesIn s) (callsIn s) (omega (arith, in-ranges .processes, processes))
+
+  steps : shape .steps ≡ stepsIn s
+  steps = ap (λ (x : Shape). x .steps) is-shape ∙ schedule-length s (good-passes s f is-good .0)
+
+  pub few-processes : shape .processes ≤ 8
+  few-processes = omega (arith, in-ranges .processes, ap (λ (x : Shape). x .processes) is-shape)
+
+  abbrev W : ℕ
+  W = shape .width
+
+  abbrev C : ℕ
+  C = shape .size
+
+  small : C ≤ 64
+  small = omega (arith, in-ranges .size, ap (λ (x : Shape). x .size) is-shape)
+
+  -- the program's start is the start
+  starts : (b : Bench) → b ≡ startBench (firstLengths s (shape .processes)) → stateIn C b (replicate 512 0) ≡ start f
+  starts b d = λ i. record {
+    bench = (d ∙ ap startBench shares-are) i;
+    slots = (slots-start C small ∙ ap (λ (x : Shape). replicate 8 (replicate (x .size) 0)) is-shape) i;
+    log = [];
+  }
+
+  module _ (from : ℕ) (place : from ≡ stepPlace (shape .processes) (shape .calls) 0) where
+    at : from ≡ stepPlace (processesIn s) (callsIn s) 0
+    at = place ∙ ap (λ (x : Shape). stepPlace (x .processes) (x .calls) 0) is-shape ∙ ap (λ (n : ℕ). stepPlace n (length (f .calls)) 0) processes ∙ ap (λ (n : ℕ). stepPlace (processesIn s) n 0) calls
+
+    pub schedule-fits : from + shape .steps ≤ length s
+    schedule-fits = omega (arith, at, steps, good-passes s f is-good .0 .whole)
+
+    -- the part of the file that the program plays is the schedule
+    abbrev schedule : List ℕ
+    schedule = take (from + shape .steps - from) (drop from s)
+
+    schedule-is : schedule ≡ f .schedule
+    schedule-is = let n : from + shape .steps - from ≡ stepsIn s = omega (arith, steps) in ap (λ (k : ℕ). take k (drop from s)) n ∙ ap (λ (k : ℕ). take (stepsIn s) (drop k s)) at
+
+    below : (k : ℕ) → k < length schedule → getD schedule k 0 < 8
+    below = subst (λ (l : List ℕ). (k : ℕ) → k < length l → getD l k 0 < 8) (sym schedule-is) (λ k h. omega (arith, in-ranges .schedule k h, in-ranges .processes))
+
+    module _ (b₀ : Bench) (d : b₀ ≡ startBench (firstLengths s (shape .processes))) where
+      pub to-play : (flat : List ℕ) → length flat ≡ 512 → ToPlay shape schedule b₀ flat
+      to-play flat whole = record {
+        counted = subst Counted (sym d) (start-counted (firstLengths s (shape .processes)));
+        few = omega (arith, ap (λ (x : Bench). x .steps) d, ap length schedule-is, in-ranges .steps);
+        all-slots = whole;
+        size = small;
+        processes = few-processes;
+        below = below;
+      }
+
+      plays : play W C (firstCalls s (shape .processes) (shape .calls)) schedule (stateIn C b₀ (replicate 512 0)) ≡ played f
+      plays =
+          ap (λ (x : State). play W C (firstCalls s (shape .processes) (shape .calls)) schedule x) (starts b₀ d)
+          ∙ ap (λ (l : List Call). play W C l schedule (start f)) calls-are
+          ∙ ap (λ (l : List ℕ). play W C (f .calls) l (start f)) schedule-is
+          ∙ ap (λ (x : Shape). play (x .width) (x .size) (f .calls) (f .schedule) (start f)) is-shape
+
+      module _ (log₀ : List ℕ) (b₁ : Bench) (flat₁ log₁ : List ℕ)
+          (g : Becomes C (b₀ .entries) log₀ (play W C (firstCalls s (shape .processes) (shape .calls)) schedule (stateIn C b₀ (replicate 512 0))) b₁ flat₁ log₁) where
+        becomes-played : Becomes C 0 log₀ (played f) b₁ flat₁ log₁
+        becomes-played = subst (λ (n : ℕ). Becomes C n log₀ (played f) b₁ flat₁ log₁) (ap (λ (x : Bench). x .entries) d) (subst (λ (x : State). Becomes C (b₀ .entries) log₀ x b₁ flat₁ log₁) plays g)
+
+        pub to-close : length flat₁ ≡ 512 → ToClose shape b₁ flat₁
+        to-close whole = record {
+          counted = subst Counted (sym (becomes-played .bench)) (played-kept f aimed .1);
+          few = omega (arith, ap (λ (x : Bench). x .steps) (becomes-played .bench), schedule-steps f, in-ranges .steps);
+          all-slots = whole;
+          size = small;
+          processes = few-processes;
+        }
+
+        module _ (b₂ : Bench) (flat₂ log₂ : List ℕ) (k : Becomes C (b₁ .entries) log₁ (close W C closingSteps (stateIn C b₁ flat₁)) b₂ flat₂ log₂) where
+          pub becomes-closed : Becomes C 0 log₀ (closed f) b₂ flat₂ log₂
+          unfolding closed
+          becomes-closed =
+              subst (λ (x : Shape). Becomes C 0 log₀ (close (x .width) (x .size) closingSteps (played f)) b₂ flat₂ log₂) is-shape
+              (becomes-next C 0 (close W C closingSteps) (close-later W C closingSteps) (played f) log₀ b₁ flat₁ log₁
+              (played-kept f aimed .0) becomes-played b₂ flat₂ log₂ k)
+
+          closed-counted : Counted b₂
+          closed-counted = subst Counted (sym (becomes-closed .bench)) (closed-kept f aimed .1)
+
+          entries-few : length (closed f .log) ≤ length (f .calls)
+          entries-few = omega (arith, entries-most f, in-ranges .count)
+
+          counts : b₂ .entries ≡ length (closed f .log)
+          counts = let z : 0 + length (closed f .log) ≡ length (closed f .log) = omega arith in ap (λ (x : Bench). x .entries) (becomes-closed .bench) ∙ closed-kept f aimed .0 ∙ z
+
+          pub ends : (buffer : List ℕ) → length flat₂ ≡ 512 → length log₂ ≡ 3077 → 5 + 12 * shape .calls ≤ length buffer → Ends shape b₂ flat₂ log₂ buffer
+          ends buffer l m room =
+              let all = ap (λ (x : Shape). x .calls) is-shape in
+              record {
+                counted = closed-counted;
+                processes = few-processes;
+                size = small;
+                all-slots = l;
+                whole-log = m;
+                entries = omega (arith, counts, entries-few, calls-most f in-ranges);
+                room = omega (arith, counts, entries-few);
+              }
+
+          ran : (buffer : List ℕ) → 5 + 12 * shape .calls ≤ length buffer → runOf s (length buffer) ≡ ranAs f (closed f)
+          unfolding runOf outcome
+          ran buffer room =
+              let all = ap (λ (x : Shape). x .calls) is-shape in
+              ap (outcome (length buffer)) is-good
+              ∙ ap (λ (t : Bool). cond t (refusal 8) (ranAs f (closed f))) (le-ltb (length buffer) (5 + 12 * length (f .calls)) (omega arith))
+
+          same-flag : closed f .bench .refused ≡ b₂ .refused
+          same-flag = ap (λ (x : Bench). x .refused) (sym (becomes-closed .bench))
+
+          pub gives-9 : (buffer : List ℕ) → 5 + 12 * shape .calls ≤ length buffer → b₂ .refused ≡ true → runOf s (length buffer) ≡ refusal 9
+          gives-9 buffer room z = ran buffer room ∙ ap (λ (t : Bool). cond t (refusal 9) (finished f (closed f))) (same-flag ∙ z)
+
+          pub gives-0 : (buffer : List ℕ) (written : ℕ) (buffer′ report table : List ℕ) → 5 + 12 * shape .calls ≤ length buffer → 3077 ≤ length log₀ → b₂ .refused ≡ false
+              → Finishes (shape .processes) C b₂ flat₂ log₂ buffer written buffer′ report table → Ran s buffer written buffer′ report table
+          gives-0 buffer written buffer′ report table room long z h =
+              subst (λ (o : Outcome). Gives o buffer written buffer′ report table)
+              (sym (ran buffer room ∙ ap (λ (t : Bool). cond t (refusal 9) (finished f (closed f))) (same-flag ∙ z)))
+              (finished-gives f (closed f) log₀ b₂ flat₂ log₂ buffer written buffer′ report table
+              (subst (λ (x : Shape). Becomes (x .size) 0 log₀ (closed f) b₂ flat₂ log₂) is-shape becomes-closed) (closed-kept f aimed .0) (omega (arith, entries-few, calls-most f in-ranges))
+              (subst (λ (x : Shape). Finishes (x .processes) (x .size) b₂ flat₂ log₂ buffer written buffer′ report table) is-shape h))
+
+  pub gives-8 : (buffer : List ℕ) → length buffer < 5 + 12 * shape .calls → runOf s (length buffer) ≡ refusal 8
+  unfolding runOf outcome
+  gives-8 buffer short =
+      let all = ap (λ (x : Shape). x .calls) is-shape in
+      ap (outcome (length buffer)) is-good
+      ∙ ap (λ (t : Bool). cond t (refusal 8) (ranAs f (closed f))) (lt-ltb (length buffer) (5 + 12 * length (f .calls)) (omega arith))
+
+-- of the bytes of a refused file
+pub gives-refused : (s : List ℕ) (n room : ℕ) → readingOf (fileOf s) ≡ Refused n → runOf s room ≡ refusal n
+unfolding runOf outcome
+gives-refused s n room e = ap (outcome room) (reading-refused s n e)

@@ -1,0 +1,200 @@
+-- Laws of the row of slots and of entries put into a log.
+use Prim.Native.Nat.{ℕ, suc, _+_, _-_, _*_, _≤_, _<_}
+use mathlib.Core.Path.{_≡_, refl, sym, ap, _∙_, subst}
+use mathlib.Core.Bool.{true, false, _||_}
+use mathlib.Core.List.{List, [], _∷_, _++_}
+use native.Mathlib.Omega.{arith}
+use native.Mathlib.Decide.{decLt, ℕ-discrete}
+use lib.ListN.{length, getD, take, drop, set, length-set, length-drop, List·getD-append}
+use lib.Seq.{getD-take, getD-drop, getD-append-add, getD-set-same, getD-set-other, ext-getD, length-take-le}
+use borrow.Rule.Slice.PartMut.{putMid, same-len-mid}
+use Rattle.base.specs.Bytes.{putAt}
+use Rattle.log.specs.Encode.{entryBytes}
+use Rattle.base.proofs.Lists.{listOf-length, listOf-getD}
+use Rattle.log.specs.declared.Entry.{Entry}
+use Rattle.runfile.specs.declared.Call.{Call}
+use Rattle.word.specs.Stages.{isIdle}
+use Rattle.queue.specs.Step.{stored, steppedOn, StepOn}
+use Rattle.word.specs.declared.Stage.{Stage}
+use Rattle.queue.specs.declared.Stepped.{Stepped}
+use Rattle.queue.specs.declared.Store.{Store}
+use Rattle.queue.specs.declared.Store.the-variants as store
+use Rattle.word.specs.declared.Word.{Word}
+use Rattle.bench.specs.inner.Layout.{slotsOf, slotsIn, stateIn, StepsIn, putEntries, Becomes, aim, Aimed, Counted, Moves, movedBench}
+use Rattle.bench.specs.Moment.{queueOf, ended, goneRound}
+use Rattle.bench.specs.State.{queueAt, processAt}
+use Rattle.bench.specs.Turn.{queueAfter, processAfter, entriesIn, benchAfter, act, idleStep, ready, turnAs, turn}
+use Rattle.bench.proofs.TurnLaws.{ready-back, ready-aim, on-queue, count-most, gone-most}
+use Rattle.bench.specs.declared.Bench.{Bench}
+use Rattle.bench.specs.declared.Ended.{Ended}
+use Rattle.bench.specs.declared.Process.{Process}
+use Rattle.bench.specs.declared.turn.Moved.{Moved}
+use Rattle.bench.specs.declared.Queue.{Queue}
+
+-- a list with a part put in its place
+module _ (xs ys : List ℕ) (a k : ℕ) (h : a + k ≤ length xs) (e : length ys ≡ k) where
+  front : length (take a xs) ≡ a
+  front = length-take-le a xs (omega arith)
+
+  put-before : (n : ℕ) → n < a → getD (putMid a k xs ys) n 0 ≡ getD xs n 0
+  put-before n l = List·getD-append (take a xs) (ys ++ drop k (drop a xs)) 0 n (omega (arith, front)) ∙ getD-take a xs n 0 l
+
+  put-past : (m : ℕ) → getD (putMid a k xs ys) (a + m) 0 ≡ getD (ys ++ drop k (drop a xs)) m 0
+  put-past m =
+      ap (λ (i : ℕ). getD (take a xs ++ (ys ++ drop k (drop a xs))) (i + m) 0) (sym front)
+      ∙ getD-append-add (take a xs) (ys ++ drop k (drop a xs)) m 0
+
+  put-in : (m : ℕ) → m < k → getD (putMid a k xs ys) (a + m) 0 ≡ getD ys m 0
+  put-in m l = put-past m ∙ List·getD-append ys (drop k (drop a xs)) 0 m (omega arith)
+
+  put-after : (r : ℕ) → getD (putMid a k xs ys) (a + (k + r)) 0 ≡ getD xs (a + (k + r)) 0
+  put-after r =
+      put-past (k + r)
+      ∙ ap (λ (i : ℕ). getD (ys ++ drop k (drop a xs)) (i + r) 0) (sym e)
+      ∙ getD-append-add ys (drop k (drop a xs)) r 0
+      ∙ getD-drop k (drop a xs) r 0 ∙ getD-drop a xs (k + r) 0
+
+  put-length : length (putMid a k xs ys) ≡ length xs
+  put-length = same-len-mid a k xs ys (e ∙ sym (length-take-le k (drop a xs) (simp length-drop (omega arith))))
+
+-- the slots of a queue
+pub slots-get : (C : ℕ) (flat : List ℕ) (q : ℕ) → q < 8 → getD (slotsIn C flat) q [] ≡ slotsOf C flat q
+slots-get C flat q h = listOf-getD 8 (slotsOf C flat) [] q h
+
+pub slots-length : (C : ℕ) (flat : List ℕ) (q : ℕ) → 64 * q + C ≤ length flat → length (slotsOf C flat q) ≡ C
+slots-length C flat q h = length-take-le C (drop (64 * q) flat) (simp length-drop (omega arith))
+
+pub slot : (C : ℕ) (flat : List ℕ) (i j : ℕ) → j < C → getD (slotsOf C flat i) j 0 ≡ getD flat (64 * i + j) 0
+slot C flat i j h = getD-take C (drop (64 * i) flat) j 0 h ∙ getD-drop (64 * i) flat j 0
+
+module _ (C q : ℕ) (flat row : List ℕ) (whole : length flat ≡ 512) (small : C ≤ 64) (h : q < 8) (e : length row ≡ C) where
+  abbrev changed : List ℕ
+  changed = putMid (64 * q) C flat row
+
+  same : length changed ≡ 512
+  same = put-length flat row (64 * q) C (omega arith) e ∙ whole
+
+  mine : slotsOf C changed q ≡ row
+  mine =
+      ext-getD 0 (slotsOf C changed q) row (slots-length C changed q (omega (arith, same)) ∙ sym e)
+      (λ j l. slot C changed q j (omega (arith, slots-length C changed q (omega (arith, same))))
+      ∙ put-in flat row (64 * q) C (omega arith) e j (omega (arith, slots-length C changed q (omega (arith, same)))))
+
+  at : (i j : ℕ) → i < 8 → (i ≡ q → ⊥) → j < C → getD changed (64 * i + j) 0 ≡ getD flat (64 * i + j) 0
+  at i j l d m = split (decLt i q)
+    where
+      split : Dec (i < q) → getD changed (64 * i + j) 0 ≡ getD flat (64 * i + j) 0
+      split (yes p) = put-before flat row (64 * q) C (omega arith) e (64 * i + j) (omega arith)
+      split (no p) =
+          let r : ℕ = 64 * i + j - (64 * q + C) in
+          let k : 64 * i + j ≡ 64 * q + (C + r) = omega arith in
+          rw k (put-after flat row (64 * q) C (omega arith) e r)
+
+  other : (i : ℕ) → i < 8 → (i ≡ q → ⊥) → slotsOf C changed i ≡ slotsOf C flat i
+  other i l d =
+      let m = slots-length C changed i (omega (arith, same)) in
+      ext-getD 0 (slotsOf C changed i) (slotsOf C flat i) (m ∙ sym (slots-length C flat i (omega arith)))
+      (λ j g. slot C changed i j (omega arith) ∙ at i j l d (omega arith) ∙ sym (slot C flat i j (omega arith)))
+
+  pub slots-put : slotsIn C changed ≡ set (slotsIn C flat) q row
+  slots-put =
+      let n = listOf-length 8 (slotsOf C changed) in
+      let m = listOf-length 8 (slotsOf C flat) in
+      ext-getD [] (slotsIn C changed) (set (slotsIn C flat) q row) (n ∙ sym (length-set (slotsIn C flat) q row ∙ m)) (λ i l. split i (omega arith) (ℕ-discrete i q))
+    where
+      split : (i : ℕ) → i < 8 → Dec (i ≡ q) → getD (slotsIn C changed) i [] ≡ getD (set (slotsIn C flat) q row) i []
+      split i l (yes p) =
+          slots-get C changed i l ∙ ap (slotsOf C changed) p ∙ mine
+          ∙ sym (ap (λ (x : ℕ). getD (set (slotsIn C flat) q row) x []) p ∙ getD-set-same (slotsIn C flat) q row [] (omega (arith, listOf-length 8 (slotsOf C flat))))
+      split i l (no p) =
+          slots-get C changed i l ∙ other i l p ∙ sym (slots-get C flat i l) ∙ sym (getD-set-other (slotsIn C flat) q i row [] p)
+
+-- the program's step on its part of the row
+module _ (W C : ℕ) (w : Word) (flat : List ℕ) (q : ℕ) (z : Stage) (r : Stepped) where
+  pub on-same : (i : ℕ) (flat′ : List ℕ) → q ≡ i → StepsIn W C w flat q z r flat′ → StepsIn W C w flat i z r flat′
+  on-same i flat′ e h = subst (λ (j : ℕ). StepsIn W C w flat j z r flat′) e h
+
+  stored-length : (xs : List ℕ) (o : Store) → length (stored xs o) ≡ length xs
+  stored-length xs store.Nothing = refl
+  stored-length xs (store.Slot at node) = length-set xs at node
+
+  pub on-part : (row : List ℕ) → length flat ≡ 512 → q < 8 → C ≤ 64 → StepOn W C w (take (64 * q + C - 64 * q) (drop (64 * q) flat)) z r row
+      → StepsIn W C w flat q z r (putMid (64 * q) (64 * q + C - 64 * q) flat row)
+  on-part row whole h small d =
+      let e : 64 * q + C - 64 * q ≡ C = omega arith in
+      let t : StepOn W C w (slotsOf C flat q) z r row = subst (λ (n : ℕ). StepOn W C w (take n (drop (64 * q) flat)) z r row) e d in
+      let l = stored-length (slotsOf C flat q) (steppedOn W C w (slotsOf C flat q) z .store) in
+      record {
+        stepped = rw (slots-get C flat q h) (t .stepped);
+        slots = rw (e, slots-get C flat q h) (slots-put C q flat row whole small h (ap length (t .kept) ∙ l ∙ slots-length C flat q (omega arith)) ∙ ap (set (slotsIn C flat) q) (t .kept));
+      }
+
+-- entries put into a log, in two parts
+pub put-append : (n : ℕ) (es ds : List Entry) (log : List ℕ) → putEntries n (es ++ ds) log ≡ putEntries (n + length es) ds (putEntries n es log)
+put-append n [] ds log = let e : n + 0 ≡ n = omega arith in rw e
+put-append n (e ∷ es) ds log =
+    let k : n + suc (length es) ≡ suc n + length es = omega arith in
+    rw k (put-append (suc n) es ds (putAt (5 + 12 * n) (entryBytes e) log))
+
+-- what the program's parts of a step of a process come to
+module _ (W C p : ℕ) (r : Process) (b : Bench) (flat log : List ℕ) (q : ℕ) (before : Queue) (owner : Process) (o : Stepped) (over : Ended) (b′ : Bench) (flat′ log′ : List ℕ) where
+  pub act-becomes : q ≡ queueOf p (r .call) → before ≡ queueAt b q → owner ≡ processAt b q → StepsIn W C (before .word) flat q (r .stage) o flat′
+      → over ≡ ended p (b .steps) r owner (before .word .top) (o .next) → log′ ≡ putEntries (b .entries) (entriesIn over) log → b′ ≡ benchAfter b p q r o over
+      → Becomes C (b .entries) log (act W C p r (stateIn C b flat)) b′ flat′ log′
+  unfolding act
+  act-becomes e f g t h k m =
+      let t′ = subst (λ (x : Queue). StepsIn W C (x .word) flat q (r .stage) o flat′) f t in
+      let h′ = subst (λ (x : Queue). over ≡ ended p (b .steps) r owner (x .word .top) (o .next)) f h in
+      let h″ = subst (λ (x : Process). over ≡ ended p (b .steps) r x (queueAt b q .word .top) (o .next)) g h′ in
+      record {
+        bench = rw (← e, ← t′ .stepped, ← h″) m;
+        slots = rw (← e) (t′ .slots);
+        bytes = rw (← e, ← t′ .stepped, ← h″) k;
+      }
+
+-- what the program's two ways through a schedule step come to
+module _ (calls : List Call) (p : ℕ) (b : Bench) (w r : Process) (e : w ≡ processAt b p) (d : r ≡ ready calls (b .steps) w) where
+  now : r ≡ ready calls (b .steps) (processAt b p)
+  now = d ∙ ap (ready calls (b .steps)) e
+
+  pub back-counted : Counted b → r .back ≤ b .steps
+  back-counted h = omega (arith, h .back p, ready-back calls (b .steps) (processAt b p), ap (λ (x : Process). x .back) now)
+
+  pub queue-counted : Aimed calls → p < 8 → Counted b → queueOf p (r .call) < 8
+  queue-counted aimed l h = on-queue p (r .call) l (subst (λ (x : Process). aim (x .call) < 8) (sym now) (ready-aim calls aimed (b .steps) (processAt b p) (h .aims p)))
+
+  module _ (W C : ℕ) (flat log : List ℕ) (b′ : Bench) where
+    pub turn-idles : isIdle (r .stage) ≡ true → b′ ≡ idleStep b → Becomes C (b .entries) log (turn W C calls p (stateIn C b flat)) b′ flat log
+    unfolding turn turnAs
+    turn-idles i h = record { bench = rw (← now, i) h; slots = rw (← now, i) refl; bytes = rw (← now, i) refl }
+
+    pub turn-acts : (flat′ log′ : List ℕ) → isIdle (r .stage) ≡ false → Becomes C (b .entries) log (act W C p r (stateIn C b flat)) b′ flat′ log′
+        → Becomes C (b .entries) log (turn W C calls p (stateIn C b flat)) b′ flat′ log′
+    unfolding turn turnAs
+    turn-acts flat′ log′ i h = record { bench = rw (← now, i) (h .bench); slots = rw (← now, i) (h .slots); bytes = rw (← now, i) (h .bytes) }
+
+-- the counts grow by at most 1, and the bench with what was changed is the bench after the step
+module _ (W C p n entries : ℕ) (r : Process) (before : Queue) (owner : Process) (flat log : List ℕ) (m : Moved) (flat′ log′ : List ℕ)
+    (v : Moves W C p n entries r before owner flat log m flat′ log′) where
+  pub moved-more : m .more ≤ 1
+  moved-more = omega (arith, v .more, count-most (v .over))
+
+  pub moved-gone : m .gone ≤ 1
+  moved-gone = omega (arith, v .gone, gone-most r (before .resets) (v .step .next))
+
+pub moves-become : (W C p : ℕ) (r : Process) (before : Queue) (owner : Process) (b : Bench) (flat log : List ℕ) (m : Moved) (flat′ log′ : List ℕ) (b′ : Bench) (q : ℕ)
+    → Moves W C p (b .steps) (b .entries) r before owner flat log m flat′ log′ → q ≡ queueOf p (r .call) → before ≡ queueAt b q → owner ≡ processAt b q → b′ ≡ movedBench b p q m
+    → Becomes C (b .entries) log (act W C p r (stateIn C b flat)) b′ flat′ log′
+moves-become W C p r before owner b flat log m flat′ log′ b′ q v e f g d =
+    act-becomes W C p r b flat log q before owner (v .step) (v .over) b′ flat′ log′ e f g
+    (on-same W C (before .word) flat (queueOf p (r .call)) (r .stage) (v .step) q flat′ (sym e) (v .slots)) (v .ends) (v .bytes) (d ∙ same)
+  where
+    same : movedBench b p q m ≡ benchAfter b p q r (v .step) (v .over)
+    same = λ i. record {
+      queues = set (b .queues) q ((v .queue ∙ ap (λ (x : Queue). queueAfter x (v .step)) f) i);
+      processes = set (b .processes) p ((v .process ∙ ap (λ (x : Queue). processAfter (b .steps) (x .resets) r (v .step .next)) f) i);
+      entries = b .entries + v .more i;
+      steps = b .steps + 1;
+      gone = b .gone + (v .gone ∙ ap (λ (x : Queue). goneRound r (x .resets) (v .step .next)) f) i;
+      refused = b .refused || v .refused i;
+    }

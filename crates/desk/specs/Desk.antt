@@ -1,0 +1,70 @@
+-- The desk: what it gives back for a stage lent with a word and slots, and the word and the slots after it. The step is the table's; a step
+-- out of range is refused with 10, before any access, and the stage is given back as lent.
+use mathlib.Core.Path.{_≡_}
+use mathlib.Core.Bool.{cond}
+use lib.ListN.{length}
+use Prim.Native.Nat.{ℕ}
+use mathlib.Core.List.{List, [], _∷_}
+use Rattle.range.specs.Range.{inRange}
+use Rattle.queue.specs.Step.{stored, steppedOn, stageAfter, resultOf as nextResult}
+use Rattle.word.specs.declared.Word.{Word}
+use Rattle.word.specs.declared.Stage.{Stage}
+use Rattle.word.specs.declared.Stage.the-variants.{Idle}
+use Rattle.queue.specs.declared.Next.{Next}
+use Rattle.queue.specs.declared.Next.the-variants as next
+use Rattle.desk.specs.declared.Answer.{Answer}
+use Rattle.desk.specs.declared.Answer.the-variants.{Going, Done, Node, Nil, Full, Refused}
+
+abbrev pub answerOf : Stage → Next → Answer
+answerOf s (next.Going z) = Going z
+answerOf s next.Done = Done
+answerOf s (next.Node x) = Node x
+answerOf s next.Nil = Nil
+answerOf s next.Full = Full
+answerOf s next.Refused = Refused s
+
+-- document 01's number for an answer
+abbrev pub numberOf : Answer → ℕ
+numberOf (Going z) = 0
+numberOf Done = 0
+numberOf (Node x) = 0
+numberOf Nil = 0
+numberOf Full = 0
+numberOf (Refused s) = 10
+
+-- where the process stands after it
+abbrev pub stageOf : Answer → Stage
+stageOf (Going z) = z
+stageOf Done = Idle
+stageOf (Node x) = Idle
+stageOf Nil = Idle
+stageOf Full = Idle
+stageOf (Refused s) = s
+
+-- of a call that ended, its result and its node as in the log; FULL and done leave the node to the push
+abbrev pub resultOf : Answer → List ℕ
+resultOf (Going z) = []
+resultOf Done = 1 ∷ []
+resultOf (Node x) = 1 ∷ x ∷ []
+resultOf Nil = 0 ∷ 0 ∷ []
+resultOf Full = 2 ∷ []
+resultOf (Refused s) = []
+
+abbrev pub deskAnswer : ℕ → ℕ → Word → List ℕ → Stage → Answer
+deskAnswer W C w slots s = answerOf s (steppedOn W C w slots s .next)
+
+abbrev pub deskWord : ℕ → ℕ → Word → List ℕ → Stage → Word
+deskWord W C w slots s = steppedOn W C w slots s .word
+
+abbrev pub deskSlots : ℕ → ℕ → Word → List ℕ → Stage → List ℕ
+deskSlots W C w slots s = stored slots (steppedOn W C w slots s .store)
+
+-- what the desk promises of its answer, with this paper's number and values, of the word and of the slots after it; 10 is given exactly where the
+-- step is out of range, and the stage is then given back as lent
+pub record AtDesk (W C : ℕ) (w : Word) (slots : List ℕ) (s : Stage) (answer : Answer) (word : Word) (after : List ℕ) : Type 0 where
+  pub answered : answer ≡ deskAnswer W C w slots s
+  pub numbered : numberOf answer ≡ cond (inRange W C (length slots) w s) 0 10
+  pub staged : stageOf answer ≡ cond (inRange W C (length slots) w s) (stageAfter (steppedOn W C w slots s .next)) s
+  pub resulted : resultOf answer ≡ nextResult (steppedOn W C w slots s .next)
+  pub altered : word ≡ deskWord W C w slots s
+  pub kept : after ≡ deskSlots W C w slots s

@@ -1,0 +1,59 @@
+// What the program prints: numbers, separated by single spaces, a line at a time.
+use log::Entry;
+use stdio::each;
+use stdio::number;
+use stdio::text;
+
+// Process, queue, kind, result, node, start, end, moment.
+fn entry(of: Entry) {
+    number(b"", of.process as u16);
+    each(
+        &[
+            of.queue as u16,
+            of.kind as u16,
+            of.result as u16,
+            of.node,
+            of.start,
+            of.end,
+            of.moment,
+        ],
+    );
+    text(b"\n");
+}
+
+// The entries of a log, a line each.
+pub(crate) fn entries(log: &[u8], count: u16) {
+    let mut i: u16 = 0;
+    while i < count {
+        entry(log::entry_at(log, i as usize));
+        i = i + 1;
+    }
+}
+
+pub(crate) fn counts(entries: u16, steps: u16, gone: u16, verdict: u8) {
+    number(b"entries ", entries);
+    number(b" steps ", steps);
+    number(b" gone-round ", gone);
+    number(b" judge ", verdict as u16);
+    text(b"\n");
+}
+
+pub(crate) fn refused(n: u16) {
+    number(b"refused ", n);
+    text(b"\n");
+}
+
+pub(crate) fn verdict(n: u8, at: u16) {
+    number(b"judge ", n as u16);
+    number(b" entry ", at);
+    text(b"\n");
+}
+
+// How the program is used.
+pub(crate) fn usage(fd: i32) {
+    io::write_all(
+        fd,
+        b"usage: program         runs the run file on standard input\n       program judge   judges the log on standard input\n",
+    );
+    io::write_all(fd, b"       program help    prints this\n");
+}

@@ -1,0 +1,3 @@
+-- The tests as facts on numbers, and back; and that the promise settles its answer.
+pub mod RangeLaws
+pub mod Settled

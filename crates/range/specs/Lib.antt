@@ -1,0 +1,6 @@
+-- What can be stepped: document 01's conditions at the desk.
+pub mod Range
+-- Computed.
+pub mod Worked
+-- Terms of the code: a reader may skip them.
+pub mod inner

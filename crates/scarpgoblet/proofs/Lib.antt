@@ -1,0 +1,2 @@
+-- Two answers that one promise allows are equal.
+pub mod Settled

@@ -1,0 +1,37 @@
+// The bench and the judge for a host program in C: include/scarpgoblet.h says what a host may count on.
+ghost use mathlib.Core.Path.{_≡_};
+ghost use Rattle.bench.specs.Promise.{Ran};
+ghost use Rattle.rules.specs.Judge.{judgeOf};
+
+// Runs a file, and gives the number of bytes of the log that it wrote at the front of the host's buffer.
+#[no_mangle]
+pub extern "C" fn scarpgoblet_run(
+    file: &[u8],
+    log: &mut [u8],
+    report: &mut [u16; 4],
+    table: &mut [u16; 536],
+) -> usize
+    ensures { λ r. ⌜ Ran (now (file .entry)) (now (log .entry)) r (now (log .exit)) (now (report .exit)) (now (table .exit)) ⌝ }
+{
+    bench::run_len(file, log, report, table)
+}
+
+// The judge's number.
+#[no_mangle]
+pub extern "C" fn scarpgoblet_judge(log: &[u8]) -> u32
+    ensures { λ r. ⌜ r ≡ judgeOf (now (log .entry)) .number ⌝ }
+{
+    let verdict = judge::judge(log);
+    let number = verdict.number;
+    number as u32
+}
+
+// The entry at fault, from 0.
+#[no_mangle]
+pub extern "C" fn scarpgoblet_judge_entry(log: &[u8]) -> u32
+    ensures { λ r. ⌜ r ≡ judgeOf (now (log .entry)) .entry ⌝ }
+{
+    let verdict = judge::judge(log);
+    let entry = verdict.entry;
+    entry as u32
+}

@@ -1,0 +1,10 @@
+-- One queue: its owner and its thieves.
+pub mod queue
+-- All queues together.
+pub mod queues
+-- The rules, and acceptance.
+pub mod rules
+-- Tags and resets.
+pub mod tags
+-- A run replayed at the desk.
+pub mod replay

@@ -1,0 +1,5 @@
+pub mod Act
+pub mod Assemble
+pub mod Kept
+pub mod Origins
+pub mod Whole

@@ -1,0 +1,4 @@
+pub mod Accepted
+pub mod Programs
+pub mod Room
+pub mod Rules

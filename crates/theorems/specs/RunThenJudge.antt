@@ -1,0 +1,21 @@
+-- The same of the programs, by what they promise: the log of a run without gone-round takes, handed to the judge, is accepted. The report's first number
+-- is the refusal, its last the gone-round takes.
+use Prim.Native.Nat.{ℕ}
+use mathlib.Core.Path.{_≡_}
+use mathlib.Core.List.{List}
+use lib.ListN.{getD, take}
+use Rattle.base.specs.Bytes.{Bytes}
+use Rattle.bench.specs.Promise.{Ran, HandsBack}
+use Rattle.rules.specs.Judge.{says, judgeOf}
+use Rattle.rules.specs.declared.Verdict.{Verdict}
+
+-- of `run`, which hands back the written front part of the buffer, and `judge`
+abbrev pub RunThenJudge : Type 0
+RunThenJudge = (file : List ℕ) → Bytes file → (room : ℕ) (front report table : List ℕ) → HandsBack file room front report table
+    → getD report 0 0 ≡ 0 → getD report 3 0 ≡ 0 → (v : Verdict) → v ≡ judgeOf front → v ≡ says 0 0
+
+-- of the functions that a host in C calls: it hands the bytes that were written to the two that judge
+abbrev pub HostRunThenJudge : Type 0
+HostRunThenJudge = (file : List ℕ) → Bytes file → (buffer : List ℕ) (written : ℕ) (buffer′ report table : List ℕ)
+    → Ran file buffer written buffer′ report table → getD report 0 0 ≡ 0 → getD report 3 0 ≡ 0
+    → (number entry : ℕ) → number ≡ judgeOf (take written buffer′) .number → entry ≡ judgeOf (take written buffer′) .entry → (number ≡ 0) × (entry ≡ 0)

@@ -1,0 +1,31 @@
+-- The run's step and the desk's are the same: both are `steppedOn`, on the queue's word and slots and the process's stage.
+use Prim.Native.Nat.{ℕ, _<_}
+use mathlib.Core.Path.{_≡_}
+use mathlib.Core.List.{List, []}
+use lib.ListN.{length, getD}
+use Rattle.word.specs.declared.Stage.{Stage}
+use Rattle.word.specs.declared.Word.{Word}
+use Rattle.queue.specs.Step.{stored, steppedOn, stageAfter}
+use Rattle.queue.specs.declared.Stepped.{Stepped}
+use Rattle.desk.specs.Desk.{answerOf, AtDesk}
+use Rattle.desk.specs.declared.Answer.{Answer}
+use Rattle.bench.specs.Moment.{queueOf}
+use Rattle.bench.specs.State.{State, queueAt, processAt}
+use Rattle.bench.specs.Turn.{act}
+use Rattle.bench.specs.declared.Process.{Process}
+
+-- process p, whose record is r, makes a step in a run: o is the step of its queue
+pub record SameStep (W C p : ℕ) (r : Process) (s : State) (o : Stepped) : Type 0 where
+  pub word : queueAt (act W C p r s .bench) (queueOf p (r .call)) .word ≡ o .word
+  pub slots : getD (act W C p r s .slots) (queueOf p (r .call)) [] ≡ stored (getD (s .slots) (queueOf p (r .call)) []) (o .store)
+  pub stage : processAt (act W C p r s .bench) p .stage ≡ stageAfter (o .next)
+
+abbrev pub RunSteps : Type 0
+RunSteps = (W C p : ℕ) (r : Process) (s : State) → let q : ℕ = queueOf p (r .call) in
+    p < length (s .bench .processes) → q < length (s .bench .queues) → q < length (s .slots)
+    → SameStep W C p r s (steppedOn W C (queueAt (s .bench) q .word) (getD (s .slots) q []) (r .stage))
+
+-- the desk's promise, on that word, these slots and that stage, is of the same step
+abbrev pub DeskSteps : Type 0
+DeskSteps = (W C : ℕ) (w : Word) (slots : List ℕ) (z : Stage) (answer : Answer) (word : Word) (after : List ℕ) → AtDesk W C w slots z answer word after
+    → let o : Stepped = steppedOn W C w slots z in (answer ≡ answerOf z (o .next)) × (word ≡ o .word) × (after ≡ stored slots (o .store))

@@ -1,0 +1,33 @@
+-- The tag counts resets, and goes round: fewer than 2^W resets during each top pop are enough for gone-round to be 0.
+use Prim.Native.Nat.{ℕ, _+_, _%_, _^_, _<_}
+use mathlib.Core.Path.{_≡_}
+use mathlib.Core.List.{List}
+use lib.ListN.{length}
+use Rattle.base.specs.Bytes.{Bytes}
+use Rattle.word.specs.Stages.{rowNumber}
+use Rattle.word.specs.declared.Stage.the-variants.{T4}
+use Rattle.runfile.specs.Encode.{InRanges}
+use Rattle.runfile.specs.File.{RunFile, good, fileOf}
+use Rattle.bench.specs.Moment.{queueOf}
+use Rattle.bench.specs.Run.{closed, runOf}
+use Rattle.bench.specs.State.{State, queueAt, processAt}
+use Rattle.bench.specs.States.{StateOf}
+
+-- in every state of a run the tag is the number of resets mod 2^W
+abbrev pub TagIsResets : Type 0
+TagIsResets = (f : RunFile) → InRanges f → (s : State) → StateOf f s → (q : ℕ) → q < length (f .shares)
+    → queueAt (s .bench) q .word .tag ≡ queueAt (s .bench) q .resets % 2 ^ f .width
+
+-- whoever stands at T4 has seen its queue reset fewer than 2^W times since its T1.
+abbrev pub FewResets : RunFile → State → Type 0
+FewResets f s = (p : ℕ) → p < length (f .shares) → rowNumber (processAt (s .bench) p .stage) ≡ rowNumber (T4 0 0 0 0)
+    → queueAt (s .bench) (queueOf p (processAt (s .bench) p .call)) .resets < processAt (s .bench) p .seen + 2 ^ f .width
+
+-- where that is so in every state of the run, no take is gone-round
+abbrev pub NoneGoneRound : Type 0
+NoneGoneRound = (f : RunFile) → InRanges f → ((s : State) → StateOf f s → FewResets f s) → closed f .bench .gone ≡ 0
+
+-- the same of files: of a run that is refused there is nothing to show
+abbrev pub FewResetsEnough : Type 0
+FewResetsEnough = (file : List ℕ) → Bytes file → (room : ℕ)
+    → ((f : RunFile) → fileOf file ≡ good f → (s : State) → StateOf f s → FewResets f s) → runOf file room .gone ≡ 0

@@ -1,0 +1,6 @@
+-- The tag.
+pub mod Tag
+-- Where a stage stands, and what it carries.
+pub mod Stages
+-- Computed.
+pub mod Worked

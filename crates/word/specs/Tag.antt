@@ -1,0 +1,10 @@
+-- The tag: with W bits the tag after 2^W − 1 is 0.
+use Prim.Native.Nat.{ℕ, _+_, _%_, _^_}
+use mathlib.Core.Bool.{Bool}
+use lib.Dec.{ltb}
+
+abbrev pub nextTag : ℕ → ℕ → ℕ
+nextTag W g = (g + 1) % 2 ^ W
+
+abbrev pub isTag : ℕ → ℕ → Bool
+isTag W g = ltb g (2 ^ W)
