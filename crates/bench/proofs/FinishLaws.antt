@@ -4,7 +4,7 @@ use mathlib.Core.Path.{_≡_, refl, sym, ap, _∙_}
 use mathlib.Core.List.{List, [], _∷_, _++_, append-assoc}
 use native.Mathlib.Omega.{arith}
 use lib.ListN.{length, take, drop, length-append, length-drop, take-append-drop}
-use lib.Seq.{take-take, take-at, take-append-seam, drop-at, length-take-le, drop-drop}
+use lib.Seq.{take-take, take-at, drop-at, length-take-le, drop-drop}
 use borrow.Author.Tests.{le-leb}
 use Rattle.base.specs.Bytes.{putAt}
 use Rattle.base.specs.Lists.{listOf}
@@ -14,12 +14,11 @@ use Rattle.log.proofs.EncodeLaws.{length-entries, length-log}
 use Rattle.log.specs.declared.Entry.{Entry}
 use Rattle.runfile.specs.File.{RunFile}
 use Rattle.bench.specs.inner.Layout.{slotsIn, putEntries, Becomes}
-use Rattle.bench.specs.Promise.{Gives}
+use Rattle.runs.specs.Promise.{Gives}
 use Rattle.bench.specs.inner.Finish.{Finishes}
-use Rattle.bench.specs.Run.{Outcome, tableSize, tableAt, finished}
-use Rattle.bench.proofs.RunLaws.{Logged}
-use Rattle.bench.specs.State.{State}
-use Rattle.bench.specs.declared.Bench.{Bench}
+use Rattle.runs.specs.Run.{tableSize, tableAt, finished}
+use Rattle.bench.specs.declared.Bench.{Bench as HeldBench}
+use Rattle.runs.specs.State.{Bench, State}
 
 -- entries that are put in follow what stands before them
 put-front : (es : List Entry) (n : ℕ) (front rest : List ℕ) → length front ≡ 5 + 12 * n → 12 * length es ≤ length rest
@@ -60,10 +59,10 @@ module _ (P C : ℕ) (es : List Entry) (log₀ : List ℕ) (h : 5 + 12 * length 
       ∙ take-at (headBytes P C (length es) ++ entriesBytes es) rest (5 + 12 * length es) (omega (arith, length-append (headBytes P C (length es)) (entriesBytes es), length-entries es))
 
 -- the program's last part gives what is promised of a finished run
-pub finished-gives : (f : RunFile) (s : State) (log₀ : List ℕ) (b : Bench) (flat log buffer : List ℕ) (written : ℕ) (buffer′ report table : List ℕ)
-    → Becomes (f .size) 0 log₀ s b flat log → Logged 0 s → 5 + 12 * length (s .log) ≤ length log₀
+pub finished-gives : (f : RunFile) (s : State) (log₀ : List ℕ) (b : HeldBench) (flat log buffer : List ℕ) (written : ℕ) (buffer′ report table : List ℕ)
+    → Becomes (f .size) 0 log₀ s b flat log → 5 + 12 * length (s .log) ≤ length log₀
     → Finishes (length (f .shares)) (f .size) b flat log buffer written buffer′ report table → Gives (finished f s) buffer written buffer′ report table
-finished-gives f s log₀ b flat log buffer written buffer′ report table h k room g = record {
+finished-gives f s log₀ b flat log buffer written buffer′ report table h room g = record {
   bytes = g .bytes ∙ ap (λ (n : ℕ). 5 + 12 * n) count ∙ sym (length-log whole);
   kept =
       g .kept
@@ -87,7 +86,7 @@ finished-gives f s log₀ b flat log buffer written buffer′ report table h k r
     whole = record { P = length (f .shares); C = f .size; entries = s .log }
 
     count : b .entries ≡ length (s .log)
-    count = let z : 0 + length (s .log) ≡ length (s .log) = omega arith in ap (λ (x : Bench). x .entries) (h .bench) ∙ k ∙ z
+    count = omega (arith, h .count)
 
 -- what the program copies into the buffer
 pub copied : (P C n : ℕ) (log x buffer buffer′ : List ℕ) (k : ℕ) → x ≡ putAt 0 (headBytes P C n) log → k ≡ 5 + 12 * n → buffer′ ≡ take k (take (5 + 12 * n) x) ++ drop k buffer
@@ -96,8 +95,3 @@ copied P C n log x buffer buffer′ k e m d =
     d ∙ ap (λ (j : ℕ). take j (take (5 + 12 * n) x) ++ drop j buffer) m
     ∙ ap (λ (l : List ℕ). l ++ drop (5 + 12 * n) buffer) (take-take (5 + 12 * n) (5 + 12 * n) x (omega arith))
     ∙ ap (λ (l : List ℕ). take (5 + 12 * n) l ++ drop (5 + 12 * n) buffer) e
-
--- the written front part of the buffer is the log
-pub front-is : (o : Outcome) (buffer : List ℕ) (written : ℕ) (buffer′ report table : List ℕ) → Gives o buffer written buffer′ report table → take written buffer′ ≡ o .log
-front-is o buffer written buffer′ report table g =
-    ap (λ (n : ℕ). take n buffer′) (g .bytes) ∙ ap (take (length (o .log))) (g .kept) ∙ take-append-seam (o .log) (drop (length (o .log)) buffer)

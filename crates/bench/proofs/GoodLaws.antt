@@ -20,21 +20,20 @@ use Rattle.runfile.proofs.ReadingLaws.{reading-good, reading-refused}
 use Rattle.runfile.specs.declared.Call.{Call}
 use Rattle.runfile.specs.declared.Reading.the-variants.{Refused, Good}
 use Rattle.runfile.specs.declared.Shape.{Shape}
-use Rattle.bench.proofs.ClosingLaws.{schedule-steps}
-use Rattle.bench.proofs.EntriesLaws.{entries-most}
+use Rattle.runs.proofs.ClosingLaws.{schedule-steps}
+use Rattle.runs.proofs.EntriesLaws.{entries-most}
 use Rattle.bench.proofs.FinishLaws.{finished-gives}
-use Rattle.bench.proofs.Induction.{play-keeps, closed-keeps}
-use Rattle.bench.specs.inner.Layout.{slotsOf, slotsIn, stateIn, Becomes, aim, Aimed, Counted, ToPlay, ToClose}
-use Rattle.bench.specs.Promise.{Gives, Ran}
+use Rattle.runs.proofs.Induction.{play-keeps, closed-keeps}
+use Rattle.bench.specs.declared.Bench.{Bench as HeldBench}
+use Rattle.bench.specs.inner.Layout.{benchIn, slotsOf, slotsIn, stateIn, Becomes, ToPlay, ToClose}
+use Rattle.runs.specs.inner.Counted.{aim, Aimed, Counted}
+use Rattle.runs.specs.Promise.{Gives, Ran}
 use Rattle.bench.specs.inner.Finish.{Finishes, Ends}
-use Rattle.bench.specs.Run.{Outcome, play, lowest, close, closed, closingSteps, tableSize, refusal, finished, ranAs, outcome, runOf, closingStep, played}
-use Rattle.bench.proofs.RunLaws.{bare, later, act-later, Logged, act-logged, turn-logged, becomes-next}
-use Rattle.bench.specs.State.{State, fresh, nobody, processAt, scripted, startBench, start}
-use Rattle.bench.specs.Turn.{act, turn}
-use Rattle.bench.proofs.TurnLaws.{counted-act, calls-aimed, counted-turn}
-use Rattle.bench.specs.declared.Bench.{Bench}
-use Rattle.bench.specs.declared.Process.{Process}
-use Rattle.bench.specs.declared.Queue.{Queue}
+use Rattle.runs.specs.Run.{Outcome, play, lowest, close, closed, closingSteps, tableSize, refusal, finished, ranAs, outcome, runOf, closingStep, played}
+use Rattle.bench.proofs.RunLaws.{bare, later, act-later, becomes-next, held-counted}
+use Rattle.runs.specs.State.{Bench, Process, Queue, State, fresh, nobody, processAt, scripted, startBench, start}
+use Rattle.runs.specs.Turn.{act, turn}
+use Rattle.runs.proofs.TurnLaws.{CountedAfter, counted-act, calls-aimed, counted-turn}
 
 -- the closing does not look at the log either
 later-later : (s a x : State) → later (later s a) x ≡ later s (later a x)
@@ -58,25 +57,25 @@ close-later W C (suc k) s = by-test (ltb (lowest (s .bench .processes)) 8) refl 
 
 -- what a run keeps
 abbrev Kept : ℕ → State → Type 0
-Kept n s = Logged 0 s × Counted (s .bench)
+Kept n s = CountedAfter 0 s
 
 turn-kept : (W C : ℕ) (calls : List Call) → Aimed calls → (n p : ℕ) (s : State) → Kept n s → Kept (suc n) (turn W C calls p s)
-turn-kept W C calls aimed n p s h = (turn-logged 0 W C calls p s (h .0), counted-turn W C calls aimed p s (h .1))
+turn-kept W C calls aimed n p s h = counted-turn 0 W C calls aimed p s h
 
 closing-kept : (W C n : ℕ) (s : State) → lowest (s .bench .processes) < 8 → Kept n s → Kept (suc n) (closingStep W C s)
 closing-kept W C n s l h =
     let p = lowest (s .bench .processes) in
-    (act-logged 0 W C p (processAt (s .bench) p) s (h .0), counted-act W C p (processAt (s .bench) p) s (h .1) (h .1 .back p) (h .1 .aims p))
+    counted-act 0 W C p (processAt (s .bench) p) s h (h .b2 p) (h .aims p)
 
 -- at the start all counts are 0
-pub start-counted : (shares : List ℕ) → Counted (startBench shares)
+pub start-counted : (shares : List ℕ) → Counted 0 (startBench shares)
 start-counted shares = record {
   queues = refl;
   processes = refl;
-  entries = omega arith;
+  logged = omega arith;
   gone = omega arith;
   resets = λ q. all q (decLt q 8);
-  back = λ p. idle p (decLt p 8) .0;
+  b2 = λ p. idle p (decLt p 8) .0;
   aims = λ p. idle p (decLt p 8) .1;
 }
   where
@@ -85,17 +84,17 @@ start-counted shares = record {
     all q (no h) = subst (λ (m : Queue). m .resets ≤ 0) (sym (List·getD-eq-default (replicate 8 fresh) fresh {n = q} (omega arith))) (omega arith)
 
     Waits : Process → Type 0
-    Waits r = (r .back ≤ 0) × (aim (r .call) < 8)
+    Waits r = (r .b2 ≤ 0) × (aim (r .call) < 8)
 
     idle : (p : ℕ) → Dec (p < 8) → Waits (getD (listOf 8 (scripted shares)) p nobody)
     idle p (yes h) = subst Waits (sym (listOf-getD 8 (scripted shares) nobody p h)) (omega arith, omega arith)
     idle p (no h) = subst Waits (sym (List·getD-eq-default (listOf 8 (scripted shares)) nobody {n = p} (omega arith))) (omega arith, omega arith)
 
 played-kept : (f : RunFile) → Aimed (f .calls) → Kept 0 (played f)
-played-kept f aimed = play-keeps Kept (f .width) (f .size) (f .calls) (turn-kept (f .width) (f .size) (f .calls) aimed) (f .schedule) 0 (start f) (refl, start-counted (f .shares))
+played-kept f aimed = play-keeps Kept (f .width) (f .size) (f .calls) (turn-kept (f .width) (f .size) (f .calls) aimed) (f .schedule) 0 (start f) (start-counted (f .shares))
 
 closed-kept : (f : RunFile) → Aimed (f .calls) → Kept 0 (closed f)
-closed-kept f aimed = closed-keeps f Kept (turn-kept (f .width) (f .size) (f .calls) aimed) (closing-kept (f .width) (f .size)) (refl, start-counted (f .shares)) .holds
+closed-kept f aimed = closed-keeps f Kept (turn-kept (f .width) (f .size) (f .calls) aimed) (closing-kept (f .width) (f .size)) (start-counted (f .shares)) .holds
 
 -- a refusal gives what is promised of it
 pub refusal-gives : (o : Outcome) (n : ℕ) (buffer : List ℕ) (written : ℕ) (report table : List ℕ) → o ≡ refusal n
@@ -165,7 +164,7 @@ module _ (s : List ℕ) (bytes : Bytes s) (shape : Shape) (e : readingOf (fileOf
   small = omega (arith, in-ranges .size, ap (λ (x : Shape). x .size) is-shape)
 
   -- the program's start is the start
-  starts : (b : Bench) → b ≡ startBench (firstLengths s (shape .processes)) → stateIn C b (replicate 512 0) ≡ start f
+  starts : (b : HeldBench) → benchIn b ≡ startBench (firstLengths s (shape .processes)) → stateIn C b (replicate 512 0) ≡ start f
   starts b d = λ i. record {
     bench = (d ∙ ap startBench shares-are) i;
     slots = (slots-start C small ∙ ap (λ (x : Shape). replicate 8 (replicate (x .size) 0)) is-shape) i;
@@ -189,10 +188,13 @@ module _ (s : List ℕ) (bytes : Bytes s) (shape : Shape) (e : readingOf (fileOf
     below : (k : ℕ) → k < length schedule → getD schedule k 0 < 8
     below = subst (λ (l : List ℕ). (k : ℕ) → k < length l → getD l k 0 < 8) (sym schedule-is) (λ k h. omega (arith, in-ranges .schedule k h, in-ranges .processes))
 
-    module _ (b₀ : Bench) (d : b₀ ≡ startBench (firstLengths s (shape .processes))) where
+    module _ (b₀ : HeldBench) (z : (benchIn b₀ ≡ startBench (firstLengths s (shape .processes))) × (b₀ .entries ≡ 0)) where
+      d : benchIn b₀ ≡ startBench (firstLengths s (shape .processes))
+      d = z .0
+
       pub to-play : (flat : List ℕ) → length flat ≡ 512 → ToPlay shape schedule b₀ flat
       to-play flat whole = record {
-        counted = subst Counted (sym d) (start-counted (firstLengths s (shape .processes)));
+        counted = subst (λ (m : ℕ). Counted m (benchIn b₀)) (sym (z .1)) (subst (Counted 0) (sym d) (start-counted (firstLengths s (shape .processes))));
         few = omega (arith, ap (λ (x : Bench). x .steps) d, ap length schedule-is, in-ranges .steps);
         all-slots = whole;
         size = small;
@@ -207,36 +209,36 @@ module _ (s : List ℕ) (bytes : Bytes s) (shape : Shape) (e : readingOf (fileOf
           ∙ ap (λ (l : List ℕ). play W C (f .calls) l (start f)) schedule-is
           ∙ ap (λ (x : Shape). play (x .width) (x .size) (f .calls) (f .schedule) (start f)) is-shape
 
-      module _ (log₀ : List ℕ) (b₁ : Bench) (flat₁ log₁ : List ℕ)
+      module _ (log₀ : List ℕ) (b₁ : HeldBench) (flat₁ log₁ : List ℕ)
           (g : Becomes C (b₀ .entries) log₀ (play W C (firstCalls s (shape .processes) (shape .calls)) schedule (stateIn C b₀ (replicate 512 0))) b₁ flat₁ log₁) where
         becomes-played : Becomes C 0 log₀ (played f) b₁ flat₁ log₁
-        becomes-played = subst (λ (n : ℕ). Becomes C n log₀ (played f) b₁ flat₁ log₁) (ap (λ (x : Bench). x .entries) d) (subst (λ (x : State). Becomes C (b₀ .entries) log₀ x b₁ flat₁ log₁) plays g)
+        becomes-played = subst (λ (n : ℕ). Becomes C n log₀ (played f) b₁ flat₁ log₁) (z .1) (subst (λ (x : State). Becomes C (b₀ .entries) log₀ x b₁ flat₁ log₁) plays g)
 
         pub to-close : length flat₁ ≡ 512 → ToClose shape b₁ flat₁
         to-close whole = record {
-          counted = subst Counted (sym (becomes-played .bench)) (played-kept f aimed .1);
+          counted = held-counted C 0 log₀ (played f) b₁ flat₁ log₁ becomes-played (played-kept f aimed);
           few = omega (arith, ap (λ (x : Bench). x .steps) (becomes-played .bench), schedule-steps f, in-ranges .steps);
           all-slots = whole;
           size = small;
           processes = few-processes;
         }
 
-        module _ (b₂ : Bench) (flat₂ log₂ : List ℕ) (k : Becomes C (b₁ .entries) log₁ (close W C closingSteps (stateIn C b₁ flat₁)) b₂ flat₂ log₂) where
+        module _ (b₂ : HeldBench) (flat₂ log₂ : List ℕ) (k : Becomes C (b₁ .entries) log₁ (close W C closingSteps (stateIn C b₁ flat₁)) b₂ flat₂ log₂) where
           pub becomes-closed : Becomes C 0 log₀ (closed f) b₂ flat₂ log₂
           unfolding closed
           becomes-closed =
               subst (λ (x : Shape). Becomes C 0 log₀ (close (x .width) (x .size) closingSteps (played f)) b₂ flat₂ log₂) is-shape
               (becomes-next C 0 (close W C closingSteps) (close-later W C closingSteps) (played f) log₀ b₁ flat₁ log₁
-              (played-kept f aimed .0) becomes-played b₂ flat₂ log₂ k)
+              becomes-played b₂ flat₂ log₂ k)
 
-          closed-counted : Counted b₂
-          closed-counted = subst Counted (sym (becomes-closed .bench)) (closed-kept f aimed .1)
+          closed-counted : Counted (b₂ .entries) (benchIn b₂)
+          closed-counted = held-counted C 0 log₀ (closed f) b₂ flat₂ log₂ becomes-closed (closed-kept f aimed)
 
           entries-few : length (closed f .log) ≤ length (f .calls)
           entries-few = omega (arith, entries-most f, in-ranges .count)
 
           counts : b₂ .entries ≡ length (closed f .log)
-          counts = let z : 0 + length (closed f .log) ≡ length (closed f .log) = omega arith in ap (λ (x : Bench). x .entries) (becomes-closed .bench) ∙ closed-kept f aimed .0 ∙ z
+          counts = omega (arith, becomes-closed .count)
 
           pub ends : (buffer : List ℕ) → length flat₂ ≡ 512 → length log₂ ≡ 3077 → 5 + 12 * shape .calls ≤ length buffer → Ends shape b₂ flat₂ log₂ buffer
           ends buffer l m room =
@@ -270,7 +272,7 @@ module _ (s : List ℕ) (bytes : Bytes s) (shape : Shape) (e : readingOf (fileOf
               subst (λ (o : Outcome). Gives o buffer written buffer′ report table)
               (sym (ran buffer room ∙ ap (λ (t : Bool). cond t (refusal 9) (finished f (closed f))) (same-flag ∙ z)))
               (finished-gives f (closed f) log₀ b₂ flat₂ log₂ buffer written buffer′ report table
-              (subst (λ (x : Shape). Becomes (x .size) 0 log₀ (closed f) b₂ flat₂ log₂) is-shape becomes-closed) (closed-kept f aimed .0) (omega (arith, entries-few, calls-most f in-ranges))
+              (subst (λ (x : Shape). Becomes (x .size) 0 log₀ (closed f) b₂ flat₂ log₂) is-shape becomes-closed) (omega (arith, entries-few, calls-most f in-ranges))
               (subst (λ (x : Shape). Finishes (x .processes) (x .size) b₂ flat₂ log₂ buffer written buffer′ report table) is-shape h))
 
   pub gives-8 : (buffer : List ℕ) → length buffer < 5 + 12 * shape .calls → runOf s (length buffer) ≡ refusal 8

@@ -1,11 +1,11 @@
 -- Laws of the row of slots and of entries put into a log.
-use Prim.Native.Nat.{ℕ, suc, _+_, _-_, _*_, _≤_, _<_}
+use Prim.Native.Nat.{ℕ, zero, suc, _+_, _-_, _*_, _≤_, _<_}
 use mathlib.Core.Path.{_≡_, refl, sym, ap, _∙_, subst}
 use mathlib.Core.Bool.{true, false, _||_}
-use mathlib.Core.List.{List, [], _∷_, _++_}
+use mathlib.Core.List.{List, [], _∷_, _++_, map}
 use native.Mathlib.Omega.{arith}
 use native.Mathlib.Decide.{decLt, ℕ-discrete}
-use lib.ListN.{length, getD, take, drop, set, length-set, length-drop, List·getD-append}
+use lib.ListN.{length, getD, take, drop, set, length-set, length-drop, length-map, List·getD-append, List·getD-map}
 use lib.Seq.{getD-take, getD-drop, getD-append-add, getD-set-same, getD-set-other, ext-getD, length-take-le}
 use borrow.Rule.Slice.PartMut.{putMid, same-len-mid}
 use Rattle.base.specs.Bytes.{putAt}
@@ -16,20 +16,22 @@ use Rattle.runfile.specs.declared.Call.{Call}
 use Rattle.word.specs.Stages.{isIdle}
 use Rattle.queue.specs.Step.{stored, steppedOn, StepOn}
 use Rattle.word.specs.declared.Stage.{Stage}
+use Rattle.word.specs.declared.Stage.the-variants.{Idle}
+use Rattle.runfile.specs.declared.Call.the-variants.{Push}
 use Rattle.queue.specs.declared.Stepped.{Stepped}
 use Rattle.queue.specs.declared.Store.{Store}
 use Rattle.queue.specs.declared.Store.the-variants as store
 use Rattle.word.specs.declared.Word.{Word}
-use Rattle.bench.specs.inner.Layout.{slotsOf, slotsIn, stateIn, StepsIn, putEntries, Becomes, aim, Aimed, Counted, Moves, movedBench}
-use Rattle.bench.specs.Moment.{queueOf, ended, goneRound}
-use Rattle.bench.specs.State.{queueAt, processAt}
-use Rattle.bench.specs.Turn.{queueAfter, processAfter, entriesIn, benchAfter, act, idleStep, ready, turnAs, turn}
-use Rattle.bench.proofs.TurnLaws.{ready-back, ready-aim, on-queue, count-most, gone-most}
-use Rattle.bench.specs.declared.Bench.{Bench}
-use Rattle.bench.specs.declared.Ended.{Ended}
-use Rattle.bench.specs.declared.Process.{Process}
+use Rattle.bench.specs.inner.Layout.{queueIn, processIn, benchIn, slotsOf, slotsIn, stateIn, StepsIn, putEntries, Becomes, Moves, movedBench}
+use Rattle.runs.specs.inner.Counted.{aim, Aimed, Counted}
+use Rattle.runs.specs.Moment.{queueOf, ended, goneRound, Nothing, ends}
+use Rattle.runs.specs.State.{Process, Queue, queueAt, processAt}
+use Rattle.runs.specs.Turn.{queueAfter, processAfter, benchAfter, act, idleStep, ready, turning, turnAs, turn}
+use Rattle.runs.proofs.TurnLaws.{ready-b2, ready-aim, on-queue, entries-few, gone-most}
 use Rattle.bench.specs.declared.turn.Moved.{Moved}
-use Rattle.bench.specs.declared.Queue.{Queue}
+use Rattle.bench.specs.declared.Bench.{Bench as HeldBench}
+use Rattle.bench.specs.declared.Process.{Process as HeldProcess}
+use Rattle.bench.specs.declared.Queue.{Queue as HeldQueue}
 
 -- a list with a part put in its place
 module _ (xs ys : List ℕ) (a k : ℕ) (h : a + k ≤ length xs) (e : length ys ≡ k) where
@@ -136,65 +138,107 @@ put-append n (e ∷ es) ds log =
     let k : n + suc (length es) ≡ suc n + length es = omega arith in
     rw k (put-append (suc n) es ds (putAt (5 + 12 * n) (entryBytes e) log))
 
--- what the program's parts of a step of a process come to
-module _ (W C p : ℕ) (r : Process) (b : Bench) (flat log : List ℕ) (q : ℕ) (before : Queue) (owner : Process) (o : Stepped) (over : Ended) (b′ : Bench) (flat′ log′ : List ℕ) where
-  pub act-becomes : q ≡ queueOf p (r .call) → before ≡ queueAt b q → owner ≡ processAt b q → StepsIn W C (before .word) flat q (r .stage) o flat′
-      → over ≡ ended p (b .steps) r owner (before .word .top) (o .next) → log′ ≡ putEntries (b .entries) (entriesIn over) log → b′ ≡ benchAfter b p q r o over
-      → Becomes C (b .entries) log (act W C p r (stateIn C b flat)) b′ flat′ log′
-  unfolding act
-  act-becomes e f g t h k m =
-      let t′ = subst (λ (x : Queue). StepsIn W C (x .word) flat q (r .stage) o flat′) f t in
-      let h′ = subst (λ (x : Queue). over ≡ ended p (b .steps) r owner (x .word .top) (o .next)) f h in
-      let h″ = subst (λ (x : Process). over ≡ ended p (b .steps) r x (queueAt b q .word .top) (o .next)) g h′ in
-      record {
-        bench = rw (← e, ← t′ .stepped, ← h″) m;
-        slots = rw (← e) (t′ .slots);
-        bytes = rw (← e, ← t′ .stepped, ← h″) k;
-      }
+-- what an array of the program has past its end: all 0, and the first of each enum
+abbrev pub freshHeld : HeldQueue
+freshHeld = record { word = record { bottom = 0; top = 0; tag = 0 }; resets = 0 }
 
--- what the program's two ways through a schedule step come to
-module _ (calls : List Call) (p : ℕ) (b : Bench) (w r : Process) (e : w ≡ processAt b p) (d : r ≡ ready calls (b .steps) w) where
-  now : r ≡ ready calls (b .steps) (processAt b p)
-  now = d ∙ ap (ready calls (b .steps)) e
+abbrev pub nobodyHeld : HeldProcess
+nobodyHeld = record { stage = Idle; call = Push 0; next = 0; stop = 0; start = 0; b2 = 0; «resets_at_t1» = 0 }
 
-  pub back-counted : Counted b → r .back ≤ b .steps
-  back-counted h = omega (arith, h .back p, ready-back calls (b .steps) (processAt b p), ap (λ (x : Process). x .back) now)
+-- a record of the program's arrays, as what it stands for
+pub queue-is : (b : HeldBench) (q : ℕ) → queueAt (benchIn b) q ≡ queueIn (getD (b .queues) q freshHeld)
+queue-is b q = List·getD-map queueIn (b .queues) q freshHeld
 
-  pub queue-counted : Aimed calls → p < 8 → Counted b → queueOf p (r .call) < 8
-  queue-counted aimed l h = on-queue p (r .call) l (subst (λ (x : Process). aim (x .call) < 8) (sym now) (ready-aim calls aimed (b .steps) (processAt b p) (h .aims p)))
+pub process-is : (b : HeldBench) (p : ℕ) → processAt (benchIn b) p ≡ processIn (getD (b .processes) p nobodyHeld)
+process-is b p = List·getD-map processIn (b .processes) p nobodyHeld
 
-  module _ (W C : ℕ) (flat log : List ℕ) (b′ : Bench) where
-    pub turn-idles : isIdle (r .stage) ≡ true → b′ ≡ idleStep b → Becomes C (b .entries) log (turn W C calls p (stateIn C b flat)) b′ flat log
+module _ (b : HeldBench) (m : ℕ) (h : Counted m (benchIn b)) where
+  pub held-queues : length (b .queues) ≡ 8
+  held-queues = sym (length-map (b .queues) queueIn) ∙ h .queues
+
+  pub held-processes : length (b .processes) ≡ 8
+  held-processes = sym (length-map (b .processes) processIn) ∙ h .processes
+
+  pub held-resets : (q : ℕ) → getD (b .queues) q freshHeld .resets ≤ b .steps
+  held-resets q = omega (arith, h .resets q, ap (λ (x : Queue). x .resets) (queue-is b q))
+
+  pub held-b2 : (p : ℕ) → getD (b .processes) p nobodyHeld .b2 ≤ b .steps
+  held-b2 p = omega (arith, h .b2 p, ap (λ (x : Process). x .b2) (process-is b p))
+
+map-set : {A B : Type 0} (f : A → B) (l : List A) (i : ℕ) (x : A) → map f (set l i x) ≡ set (map f l) i (f x)
+map-set f [] i x = refl
+map-set f (y ∷ l) zero x = refl
+map-set f (y ∷ l) (suc i) x = ap (λ (k : List _). f y ∷ k) (map-set f l i x)
+
+-- what the program's two ways through a schedule step come to: w is the record of process p, and r the one with which it makes its turn
+module _ (calls : List Call) (p : ℕ) (b : HeldBench) (w r : HeldProcess) (e : w ≡ getD (b .processes) p nobodyHeld)
+    (d : processIn r ≡ ready calls (b .steps) (processIn w)) where
+  now : processIn r ≡ turning calls p (stateIn 0 b [])
+  now = d ∙ ap (λ (x : HeldProcess). ready calls (b .steps) (processIn x)) e ∙ ap (ready calls (b .steps)) (sym (process-is b p))
+
+  pub b2-counted : (m : ℕ) → Counted m (benchIn b) → r .b2 ≤ b .steps
+  b2-counted m h = omega (arith, h .b2 p, ready-b2 calls (b .steps) (processAt (benchIn b) p), ap (λ (x : Process). x .b2) now)
+
+  pub queue-counted : (m : ℕ) → Aimed calls → p < 8 → Counted m (benchIn b) → queueOf p (r .call) < 8
+  queue-counted m aimed l h =
+      on-queue p (r .call) l (subst (λ (x : Process). aim (x .call) < 8) (sym now) (ready-aim calls aimed (b .steps) (processAt (benchIn b) p) (h .aims p)))
+
+  module _ (W C : ℕ) (flat log : List ℕ) (b′ : HeldBench) where
+    pub turn-idles : isIdle (r .stage) ≡ true → benchIn b′ ≡ idleStep (benchIn b) → b′ .entries ≡ b .entries
+        → Becomes C (b .entries) log (turn W C calls p (stateIn C b flat)) b′ flat log
     unfolding turn turnAs
-    turn-idles i h = record { bench = rw (← now, i) h; slots = rw (← now, i) refl; bytes = rw (← now, i) refl }
+    turn-idles i h k = record { bench = rw (← now, i) h; count = rw (← now, i) (omega (arith, k)); slots = rw (← now, i) refl; bytes = rw (← now, i) refl }
 
-    pub turn-acts : (flat′ log′ : List ℕ) → isIdle (r .stage) ≡ false → Becomes C (b .entries) log (act W C p r (stateIn C b flat)) b′ flat′ log′
+    pub turn-acts : (flat′ log′ : List ℕ) → isIdle (r .stage) ≡ false → Becomes C (b .entries) log (act W C p (processIn r) (stateIn C b flat)) b′ flat′ log′
         → Becomes C (b .entries) log (turn W C calls p (stateIn C b flat)) b′ flat′ log′
     unfolding turn turnAs
-    turn-acts flat′ log′ i h = record { bench = rw (← now, i) (h .bench); slots = rw (← now, i) (h .slots); bytes = rw (← now, i) (h .bytes) }
+    turn-acts flat′ log′ i h =
+        record { bench = rw (← now, i) (h .bench); count = rw (← now, i) (h .count); slots = rw (← now, i) (h .slots); bytes = rw (← now, i) (h .bytes) }
 
 -- the counts grow by at most 1, and the bench with what was changed is the bench after the step
 module _ (W C p n entries : ℕ) (r : Process) (before : Queue) (owner : Process) (flat log : List ℕ) (m : Moved) (flat′ log′ : List ℕ)
     (v : Moves W C p n entries r before owner flat log m flat′ log′) where
   pub moved-more : m .more ≤ 1
-  moved-more = omega (arith, v .more, count-most (v .over))
+  moved-more = omega (arith, v .more, entries-few (v .over))
 
   pub moved-gone : m .gone ≤ 1
   moved-gone = omega (arith, v .gone, gone-most r (before .resets) (v .step .next))
 
-pub moves-become : (W C p : ℕ) (r : Process) (before : Queue) (owner : Process) (b : Bench) (flat log : List ℕ) (m : Moved) (flat′ log′ : List ℕ) (b′ : Bench) (q : ℕ)
-    → Moves W C p (b .steps) (b .entries) r before owner flat log m flat′ log′ → q ≡ queueOf p (r .call) → before ≡ queueAt b q → owner ≡ processAt b q → b′ ≡ movedBench b p q m
-    → Becomes C (b .entries) log (act W C p r (stateIn C b flat)) b′ flat′ log′
-moves-become W C p r before owner b flat log m flat′ log′ b′ q v e f g d =
-    act-becomes W C p r b flat log q before owner (v .step) (v .over) b′ flat′ log′ e f g
-    (on-same W C (before .word) flat (queueOf p (r .call)) (r .stage) (v .step) q flat′ (sym e) (v .slots)) (v .ends) (v .bytes) (d ∙ same)
-  where
-    same : movedBench b p q m ≡ benchAfter b p q r (v .step) (v .over)
-    same = λ i. record {
-      queues = set (b .queues) q ((v .queue ∙ ap (λ (x : Queue). queueAfter x (v .step)) f) i);
-      processes = set (b .processes) p ((v .process ∙ ap (λ (x : Queue). processAfter (b .steps) (x .resets) r (v .step .next)) f) i);
-      entries = b .entries + v .more i;
-      steps = b .steps + 1;
-      gone = b .gone + (v .gone ∙ ap (λ (x : Queue). goneRound r (x .resets) (v .step .next)) f) i;
-      refused = b .refused || v .refused i;
-    }
+-- what the program's parts of a step of a process come to: before and owner are the records of its queue and of the queue's owner
+module _ (W C p : ℕ) (r : HeldProcess) (b : HeldBench) (flat log : List ℕ) (q : ℕ) (before : HeldQueue) (owner : HeldProcess) (m : Moved) (flat′ log′ : List ℕ)
+    (v : Moves W C p (b .steps) (b .entries) (processIn r) (queueIn before) (processIn owner) flat log m flat′ log′) (e : q ≡ queueOf p (r .call))
+    (f : before ≡ getD (b .queues) q freshHeld) (g : owner ≡ getD (b .processes) q nobodyHeld) where
+  before-is : queueIn before ≡ queueAt (benchIn b) q
+  before-is = ap queueIn f ∙ sym (queue-is b q)
+
+  owner-is : processIn owner ≡ processAt (benchIn b) q
+  owner-is = ap processIn g ∙ sym (process-is b q)
+
+  stepped : StepsIn W C (queueAt (benchIn b) q .word) flat q (r .stage) (v .step) flat′
+  stepped =
+      subst (λ (x : Queue). StepsIn W C (x .word) flat q (r .stage) (v .step) flat′) before-is
+      (on-same W C (before .word) flat (queueOf p (r .call)) (r .stage) (v .step) q flat′ (sym e) (v .slots))
+
+  over-is : v .over ≡ ended p (b .steps) (processIn r) (processAt (benchIn b) q) (queueAt (benchIn b) q .word .top) (v .step .next)
+  over-is =
+      v .ends ∙ ap (λ (x : Queue). ended p (b .steps) (processIn r) (processIn owner) (x .word .top) (v .step .next)) before-is
+      ∙ ap (λ (x : Process). ended p (b .steps) (processIn r) x (queueAt (benchIn b) q .word .top) (v .step .next)) owner-is
+
+  after-is : benchIn (movedBench b p q m) ≡ benchAfter (benchIn b) p q (processIn r) (v .step)
+  after-is = λ i. record {
+    queues = (map-set queueIn (b .queues) q (m .queue) ∙ ap (set (map queueIn (b .queues)) q) (v .queue ∙ ap (λ (x : Queue). queueAfter x (v .step)) before-is)) i;
+    processes = (map-set processIn (b .processes) p (m .process)
+        ∙ ap (set (map processIn (b .processes)) p) (v .process ∙ ap (λ (x : Queue). processAfter (b .steps) (x .resets) (processIn r) (v .step .next)) before-is)) i;
+    steps = b .steps + 1;
+    gone = b .gone + (v .gone ∙ ap (λ (x : Queue). goneRound (processIn r) (x .resets) (v .step .next)) before-is) i;
+    refused = b .refused || v .refused i;
+  }
+
+  pub moves-become : (b′ : HeldBench) → b′ ≡ movedBench b p q m → Becomes C (b .entries) log (act W C p (processIn r) (stateIn C b flat)) b′ flat′ log′
+  unfolding act
+  moves-become b′ d = record {
+    bench = rw (← e, ← stepped .stepped) (ap benchIn d ∙ after-is);
+    count = rw (← e, ← stepped .stepped, ← over-is) (ap (λ (x : HeldBench). x .entries) d ∙ ap (λ (k : ℕ). b .entries + k) (v .more));
+    slots = rw (← e) (stepped .slots);
+    bytes = rw (← e, ← stepped .stepped, ← over-is) (v .bytes);
+  }

@@ -14,17 +14,17 @@ use Rattle.log.specs.Encode.{entryBytes}
 use Rattle.log.specs.declared.Entry.{Entry}
 use Rattle.word.specs.Stages.{isIdle}
 use Rattle.runfile.specs.declared.Call.{Call}
-use Rattle.bench.proofs.ClosingLaws.{lowest-busy}
-use Rattle.bench.proofs.Induction.{play-next, close-next, close-early}
-use Rattle.bench.specs.inner.Layout.{stateIn, putEntries, Becomes, Aimed, Counted}
+use Rattle.runs.proofs.ClosingLaws.{lowest-busy}
+use Rattle.runs.proofs.Induction.{play-next, close-next, close-early}
+use Rattle.bench.specs.inner.Layout.{benchIn, stateIn, putEntries, Becomes}
+use Rattle.runs.specs.inner.Counted.{Aimed, Counted}
+use Rattle.bench.specs.declared.Bench.{Bench as HeldBench}
 use Rattle.bench.proofs.LayoutLaws.{put-append}
-use Rattle.bench.specs.Run.{play, lowest, close}
-use Rattle.bench.specs.State.{State, processAt}
-use Rattle.bench.specs.Turn.{entriesIn, ready, stepping, ending, act, idle, turnAs, turn}
+use Rattle.runs.specs.Run.{play, lowest, close}
+use Rattle.runs.specs.State.{Bench, Process, State, processAt}
+use Rattle.runs.specs.Turn.{ready, act, idle, turnAs, turn}
 use Rattle.base.proofs.Cases.{either-way}
-use Rattle.bench.proofs.TurnLaws.{count-is, counted-turn}
-use Rattle.bench.specs.declared.Bench.{Bench}
-use Rattle.bench.specs.declared.Process.{Process}
+use Rattle.runs.proofs.TurnLaws.{CountedAfter, counted-turn}
 
 -- the state with nothing in its log yet, and a state with what comes later
 abbrev pub bare : State → State
@@ -51,45 +51,35 @@ turn-later W C calls p s = by-test (isIdle (r .stage)) refl
     by-test true e = rw e (λ i. record { bench = idle s .bench; slots = s .slots; log = sym (append-nil (s .log)) i })
     by-test false e = rw e refl
 
--- the bench counts the entries of the log, after the n that were there before
-abbrev pub Logged : ℕ → State → Type 0
-Logged n s = s .bench .entries ≡ n + length (s .log)
-
-pub act-logged : (n W C p : ℕ) (r : Process) (s : State) → Logged n s → Logged n (act W C p r s)
-unfolding act
-act-logged n W C p r s h =
-    let over = ending p r (s .bench) (stepping W C p r s .next) in
-    omega (arith, count-is over, length-append (s .log) (entriesIn over))
-
-pub turn-logged : (n W C : ℕ) (calls : List Call) (p : ℕ) (s : State) → Logged n s → Logged n (turn W C calls p s)
-unfolding turn turnAs
-turn-logged n W C calls p s h =
-    let r = ready calls (s .bench .steps) (processAt (s .bench) p) in
-    either-way (Logged n) (isIdle (r .stage)) (λ e. h) (λ e. act-logged n W C p r s h)
-
 -- a step of the program carries on what the program stands for
-pub becomes-next : (C n : ℕ) (F : State → State) → ((s : State) → F s ≡ later s (F (bare s))) → (s : State) (log₀ : List ℕ) (b : Bench) (flat log : List ℕ)
-    → Logged n s → Becomes C n log₀ s b flat log → (b′ : Bench) (flat′ log′ : List ℕ) → Becomes C (b .entries) log (F (stateIn C b flat)) b′ flat′ log′
+pub becomes-next : (C n : ℕ) (F : State → State) → ((s : State) → F s ≡ later s (F (bare s))) → (s : State) (log₀ : List ℕ) (b : HeldBench) (flat log : List ℕ)
+    → Becomes C n log₀ s b flat log → (b′ : HeldBench) (flat′ log′ : List ℕ) → Becomes C (b .entries) log (F (stateIn C b flat)) b′ flat′ log′
     → Becomes C n log₀ (F s) b′ flat′ log′
-becomes-next C n F adds s log₀ b flat log k h b′ flat′ log′ g =
+becomes-next C n F adds s log₀ b flat log h b′ flat′ log′ g =
     let e : F (stateIn C b flat) ≡ F (bare s) = ap F (λ i. record { bench = h .bench i; slots = h .slots i; log = [] }) in
-    let m : b .entries ≡ n + length (s .log) = ap (λ (x : Bench). x .entries) (h .bench) ∙ k in
     record {
       bench = g .bench ∙ ap (λ (x : State). x .bench) e ∙ sym (ap (λ (x : State). x .bench) (adds s));
+      count = omega (
+        arith,
+        g .count,
+        h .count,
+        ap (λ (x : State). length (x .log)) e,
+        ap (λ (x : State). length (x .log)) (adds s),
+        length-append (s .log) (F (bare s) .log),
+      );
       slots = g .slots ∙ ap (λ (x : State). x .slots) e ∙ sym (ap (λ (x : State). x .slots) (adds s));
       bytes = g .bytes
           ∙ ap (λ (x : State). putEntries (b .entries) (x .log) log) e
-          ∙ ap (λ (i : ℕ). putEntries i (F (bare s) .log) log) m
+          ∙ ap (λ (i : ℕ). putEntries i (F (bare s) .log) log) (h .count)
           ∙ ap (λ (l : List ℕ). putEntries (n + length (s .log)) (F (bare s) .log) l) (h .bytes)
           ∙ sym (put-append n (s .log) (F (bare s) .log) log₀)
           ∙ sym (ap (λ (x : State). putEntries n (x .log) log₀) (adds s));
     }
 
 -- what the program's loops keep: they stand for a state s, and every count fits
-pub record Along (C n : ℕ) (log₀ : List ℕ) (s : State) (b : Bench) (flat log : List ℕ) : Type 0 where
+pub record Along (C n : ℕ) (log₀ : List ℕ) (s : State) (b : HeldBench) (flat log : List ℕ) : Type 0 where
   pub becomes : Becomes C n log₀ s b flat log
-  pub logged : Logged n s
-  pub counted : Counted b
+  pub counted : Counted (b .entries) (benchIn b)
 
 pub put-same-length : (at : ℕ) (bytes buffer : List ℕ) → length (putAt at bytes buffer) ≡ length buffer
 put-same-length at bytes buffer =
@@ -102,31 +92,43 @@ put-length : (n : ℕ) (es : List Entry) (log : List ℕ) → length (putEntries
 put-length n [] log = refl
 put-length n (e ∷ es) log = put-length (suc n) es (putAt (5 + 12 * n) (entryBytes e) log) ∙ put-same-length (5 + 12 * n) (entryBytes e) log
 
-pub along-length : (C n : ℕ) (log₀ : List ℕ) (s : State) (b : Bench) (flat log : List ℕ) → Along C n log₀ s b flat log → length log ≡ length log₀
+pub along-length : (C n : ℕ) (log₀ : List ℕ) (s : State) (b : HeldBench) (flat log : List ℕ) → Along C n log₀ s b flat log → length log ≡ length log₀
 along-length C n log₀ s b flat log h = ap length (h .becomes .bytes) ∙ put-length n (s .log) log₀
 
 -- nothing is done yet
-pub along-start : (C : ℕ) (b : Bench) (flat log : List ℕ) → Counted b → Along C (b .entries) log (stateIn C b flat) b flat log
-along-start C b flat log h = record { becomes = record { bench = refl; slots = refl; bytes = refl }; logged = omega arith; counted = h }
+pub along-start : (C : ℕ) (b : HeldBench) (flat log : List ℕ) → Counted (b .entries) (benchIn b) → Along C (b .entries) log (stateIn C b flat) b flat log
+along-start C b flat log h = record { becomes = record { bench = refl; count = omega arith; slots = refl; bytes = refl }; counted = h }
 
-module _ (W C n : ℕ) (log₀ : List ℕ) (s : State) (b : Bench) (flat log : List ℕ) (h : Along C n log₀ s b flat log) (b′ : Bench) (flat′ log′ : List ℕ) where
+-- the counts of the state that the program stands for, and back
+pub held-counted : (C n : ℕ) (log₀ : List ℕ) (s : State) (b : HeldBench) (flat log : List ℕ) → Becomes C n log₀ s b flat log → CountedAfter n s
+    → Counted (b .entries) (benchIn b)
+held-counted C n log₀ s b flat log g h =
+    subst (λ (m : ℕ). Counted m (benchIn b)) (sym (g .count)) (subst (Counted (n + length (s .log))) (sym (g .bench)) h)
+
+told-counted : (C n : ℕ) (log₀ : List ℕ) (s : State) (b : HeldBench) (flat log : List ℕ) → Along C n log₀ s b flat log → CountedAfter n s
+told-counted C n log₀ s b flat log h =
+    subst (Counted (n + length (s .log))) (h .becomes .bench) (subst (λ (m : ℕ). Counted m (benchIn b)) (h .becomes .count) (h .counted))
+
+module _ (W C n : ℕ) (log₀ : List ℕ) (s : State) (b : HeldBench) (flat log : List ℕ) (h : Along C n log₀ s b flat log) (b′ : HeldBench) (flat′ log′ : List ℕ) where
   pub along-turn : (calls : List Call) → Aimed calls → (p : ℕ) → Becomes C (b .entries) log (turn W C calls p (stateIn C b flat)) b′ flat′ log′ → Along C n log₀ (turn W C calls p s) b′ flat′ log′
   along-turn calls aimed p g = record {
-    becomes = becomes-next C n (turn W C calls p) (turn-later W C calls p) s log₀ b flat log (h .logged) (h .becomes) b′ flat′ log′ g;
-    logged = turn-logged n W C calls p s (h .logged);
-    counted = subst Counted (sym (g .bench)) (counted-turn W C calls aimed p (stateIn C b flat) (h .counted));
+    becomes = turned;
+    counted = held-counted C n log₀ (turn W C calls p s) b′ flat′ log′ turned (counted-turn n W C calls aimed p s (told-counted C n log₀ s b flat log h));
   }
+    where
+      turned : Becomes C n log₀ (turn W C calls p s) b′ flat′ log′
+      turned = becomes-next C n (turn W C calls p) (turn-later W C calls p) s log₀ b flat log (h .becomes) b′ flat′ log′ g
 
 pub turn-steps : (W C : ℕ) (calls : List Call) (p : ℕ) (s : State) → turn W C calls p s .bench .steps ≡ s .bench .steps + 1
 unfolding turn turnAs act
 turn-steps W C calls p s = either-way (λ (x : State). x .bench .steps ≡ s .bench .steps + 1) (isIdle (ready calls (s .bench .steps) (processAt (s .bench) p) .stage)) (λ e. refl) (λ e. refl)
 
 -- the loop over the schedule, i steps on
-abbrev pub Played : ℕ → ℕ → ℕ → List Call → List ℕ → List ℕ → State → ℕ → Bench → List ℕ → List ℕ → Type 0
+abbrev pub Played : ℕ → ℕ → ℕ → List Call → List ℕ → List ℕ → State → ℕ → HeldBench → List ℕ → List ℕ → Type 0
 Played W C n calls ps log₀ s₀ i b flat log = Along C n log₀ (play W C calls (take i ps) s₀) b flat log × (b .steps ≡ s₀ .bench .steps + i)
 
-module _ (W C n : ℕ) (calls : List Call) (ps : List ℕ) (log₀ : List ℕ) (s₀ : State) (i : ℕ) (b : Bench) (flat log : List ℕ) where
-  pub played-next : Aimed calls → (p : ℕ) (b′ : Bench) (flat′ log′ : List ℕ) → Played W C n calls ps log₀ s₀ i b flat log → i < length ps → p ≡ getD ps i 0
+module _ (W C n : ℕ) (calls : List Call) (ps : List ℕ) (log₀ : List ℕ) (s₀ : State) (i : ℕ) (b : HeldBench) (flat log : List ℕ) where
+  pub played-next : Aimed calls → (p : ℕ) (b′ : HeldBench) (flat′ log′ : List ℕ) → Played W C n calls ps log₀ s₀ i b flat log → i < length ps → p ≡ getD ps i 0
       → Becomes C (b .entries) log (turn W C calls p (stateIn C b flat)) b′ flat′ log′ → Played W C n calls ps log₀ s₀ (i + 1) b′ flat′ log′
   played-next aimed p b′ flat′ log′ h l e g = (
     subst (λ (x : State). Along C n log₀ x b′ flat′ log′) (ap (λ (q : ℕ). turn W C calls q (play W C calls (take i ps) s₀)) e ∙ sym (play-next W C calls ps i s₀ l))
@@ -137,16 +139,16 @@ module _ (W C n : ℕ) (calls : List Call) (ps : List ℕ) (log₀ : List ℕ) (
   pub played-all : Played W C n calls ps log₀ s₀ i b flat log → length ps ≤ i → Becomes C n log₀ (play W C calls ps s₀) b flat log
   played-all h l = subst (λ (qs : List ℕ). Becomes C n log₀ (play W C calls qs s₀) b flat log) (take-all i ps l) (h .0 .becomes)
 
-pub played-start : (W C : ℕ) (calls : List Call) (ps : List ℕ) (b : Bench) (flat log : List ℕ) → Counted b
+pub played-start : (W C : ℕ) (calls : List Call) (ps : List ℕ) (b : HeldBench) (flat log : List ℕ) → Counted (b .entries) (benchIn b)
     → Played W C (b .entries) calls ps log (stateIn C b flat) 0 b flat log
 unfolding play
 played-start W C calls ps b flat log h = (along-start C b flat log h, omega arith)
 
 -- the loop of the closing, i steps on
-abbrev pub Closing : ℕ → ℕ → ℕ → List ℕ → State → ℕ → Bench → List ℕ → List ℕ → Type 0
+abbrev pub Closing : ℕ → ℕ → ℕ → List ℕ → State → ℕ → HeldBench → List ℕ → List ℕ → Type 0
 Closing W C n log₀ s₀ i b flat log = Along C n log₀ (close W C i s₀) b flat log × (b .steps ≤ 4096 + i)
 
-pub closing-start : (W C : ℕ) (b : Bench) (flat log : List ℕ) → Counted b → b .steps ≤ 4096 → Closing W C (b .entries) log (stateIn C b flat) 0 b flat log
+pub closing-start : (W C : ℕ) (b : HeldBench) (flat log : List ℕ) → Counted (b .entries) (benchIn b) → b .steps ≤ 4096 → Closing W C (b .entries) log (stateIn C b flat) 0 b flat log
 unfolding close
 closing-start W C b flat log h k = (along-start C b flat log h, omega arith)
 
@@ -156,12 +158,12 @@ half-turn : (W C : ℕ) (calls : List Call) (p : ℕ) (s : State) → isIdle (pr
 unfolding turn turnAs
 half-turn W C calls p s e = rw (e, e) refl
 
-module _ (W C n : ℕ) (log₀ : List ℕ) (s₀ : State) (i : ℕ) (b : Bench) (flat log : List ℕ) (h : Closing W C n log₀ s₀ i b flat log) where
-  same : b ≡ close W C i s₀ .bench
+module _ (W C n : ℕ) (log₀ : List ℕ) (s₀ : State) (i : ℕ) (b : HeldBench) (flat log : List ℕ) (h : Closing W C n log₀ s₀ i b flat log) where
+  same : benchIn b ≡ close W C i s₀ .bench
   same = h .0 .becomes .bench
 
   -- a schedule of the lowest half-done process alone is a step of the closing
-  pub closing-next : (calls : List Call) → Aimed calls → (p : ℕ) (b′ : Bench) (flat′ log′ : List ℕ) → p ≡ lowest (b .processes) → p < 8
+  pub closing-next : (calls : List Call) → Aimed calls → (p : ℕ) (b′ : HeldBench) (flat′ log′ : List ℕ) → p ≡ lowest (benchIn b .processes) → p < 8
       → Becomes C (b .entries) log (play W C calls (p ∷ []) (stateIn C b flat)) b′ flat′ log′ → Closing W C n log₀ s₀ (i + 1) b′ flat′ log′
   unfolding play
   closing-next calls aimed p b′ flat′ log′ e l g = (
@@ -184,7 +186,7 @@ module _ (W C n : ℕ) (log₀ : List ℕ) (s₀ : State) (i : ℕ) (b : Bench) 
           ∙ ap (λ (t : Bool). cond t (act W C p (processAt (close W C i s₀ .bench) p) (close W C i s₀)) (close W C i s₀)) (lt-ltb p 8 l)
           ∙ sym (half-turn W C calls p (close W C i s₀) half)
 
-  pub closing-early : lowest (b .processes) ≡ 8 → (k : ℕ) → i ≤ k → Becomes C n log₀ (close W C k s₀) b flat log
+  pub closing-early : lowest (benchIn b .processes) ≡ 8 → (k : ℕ) → i ≤ k → Becomes C n log₀ (close W C k s₀) b flat log
   closing-early e k l =
       let m : i + (k - i) ≡ k = omega arith in
       let z : ltb (lowest (close W C i s₀ .bench .processes)) 8 ≡ false = le-ltb (lowest (close W C i s₀ .bench .processes)) 8 (omega (arith, ap (λ (x : Bench). lowest (x .processes)) same)) in

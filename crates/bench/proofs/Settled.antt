@@ -1,11 +1,9 @@
 -- What the public functions promise settles their answers: two answers that a promise allows are equal.
 use Prim.Native.Nat.{ℕ}
-use mathlib.Core.Path.{_≡_, sym, _∙_}
+use mathlib.Core.Path.{_≡_}
 use mathlib.Core.List.{List}
-use Rattle.bench.specs.Promise.{Ran, HandsBack}
-
-one-value : {A : Type 0} {x y z : A} → x ≡ z → y ≡ z → x ≡ y
-one-value p q = p ∙ sym q
+use Rattle.base.proofs.Settled.{one-value}
+use Rattle.runs.specs.Promise.{Ran, HandsBack}
 
 -- of run_len and scarpgoblet_run: the number of bytes, the buffer, the report and the table
 pub run-len-settled : (file buffer : List ℕ) (w w′ : ℕ) (b b′ r r′ t t′ : List ℕ) → Ran file buffer w b r t → Ran file buffer w′ b′ r′ t′ → (w ≡ w′) × (b ≡ b′) × (r ≡ r′) × (t ≡ t′)

@@ -1,5 +1,5 @@
 -- Laws of the start's shares and of the final table, as the program takes them.
-use Prim.Native.Nat.{ℕ, zero, suc, _+_, _-_, _*_, _≤_, _<_}
+use Prim.Native.Nat.{ℕ, zero, suc, _+_, _-_, _*_, _/_, _%_, _≤_, _<_}
 use mathlib.Core.Path.{_≡_, refl, sym, ap, _∙_}
 use mathlib.Core.List.{List, [], _∷_, _++_}
 use native.Mathlib.Numerals.{add-one}
@@ -11,9 +11,11 @@ use Rattle.base.specs.Lists.{listOf}
 use Rattle.word.specs.declared.Word.{Word}
 use Rattle.runfile.specs.Check.{sum}
 use Rattle.runfile.specs.File.{firstLengths, callsBefore}
-use Rattle.bench.specs.inner.Layout.{slotsOf, slotsIn}
-use Rattle.bench.proofs.LayoutLaws.{slots-get, slot}
-use Rattle.bench.specs.Run.{tableRow, inTable}
+use Rattle.runs.specs.State.{Queue}
+use Rattle.bench.specs.declared.Bench.{Bench as HeldBench}
+use Rattle.bench.specs.inner.Layout.{benchIn, slotsOf, slotsIn}
+use Rattle.bench.proofs.LayoutLaws.{slots-get, slot, freshHeld, queue-is}
+use Rattle.runs.specs.Run.{tableRow, inTable, tableAt}
 
 -- the calls before those of process p
 pub shares-below : (s : List ℕ) (P p : ℕ) → p < P → sum (take p (firstLengths s P)) ≡ callsBefore s p
@@ -56,3 +58,8 @@ module _ (f : ℕ → ℕ) where
 
   pub filled : (k n : ℕ) (table : List ℕ) → length table ≡ n → n ≤ k → k ≤ n → take k table ≡ listOf k f → table ≡ listOf n f
   filled k n table h l m e = let d : k ≡ n = omega arith in sym (take-all k table (omega arith)) ∙ e ∙ ap (λ (i : ℕ). listOf i f) d
+
+-- the word of a queue in the program's array is that of the queue that it stands for
+pub held-row : (P : ℕ) (b : HeldBench) (slots : List (List ℕ)) (k : ℕ)
+    → inTable P (getD (b .queues) (k / 67) freshHeld .word) slots (k / 67) (k % 67) ≡ tableAt P (benchIn b) slots k
+held-row P b slots k = ap (λ (m : Queue). inTable P (m .word) slots (k / 67) (k % 67)) (sym (queue-is b (k / 67)))

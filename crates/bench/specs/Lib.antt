@@ -1,18 +1,2 @@
--- The state of a run, and its start.
-pub mod State
--- The entry of a finished call, and its moment.
-pub mod Moment
--- One step of a run.
-pub mod Turn
--- The schedule, the closing, and everything that a run gives.
-pub mod Run
--- The states that it goes through.
-pub mod States
--- What is shown of every run.
-pub mod Shown
--- What `run` promises.
-pub mod Promise
--- K1 to K8 and K13, computed.
-pub mod Worked
--- Terms of the code: a reader may skip them.
+-- What `run` promises stands in the crate `runs`; here are terms of the code: a reader may skip them.
 pub mod inner

@@ -4,9 +4,9 @@ ghost use mathlib.Core.List.{[], _∷_};
 ghost use lib.ListN.{length, replicate};
 ghost use denote.Ref.{ptr};
 ghost use Rattle.runfile.specs.File.{fileOf, readingOf};
-ghost use Rattle.bench.specs.Promise.{Ran, HandsBack};
+ghost use Rattle.runs.specs.Promise.{Ran, HandsBack};
 ghost use Rattle.bench.specs.inner.Finish.{Ends, Finishes};
-ghost use Rattle.bench.specs.Run.{tableSize};
+ghost use Rattle.runs.specs.Run.{tableSize};
 
 mod moment; // what a step ends, and its moment
 mod start; // eight fresh queues, and each process with its share of the calls
@@ -20,6 +20,19 @@ use runfile::Reading;
 use runfile::Shape;
 use word::Stage;
 use word::Word;
+
+// The steps of the closing at most: eight calls are half-done, and each has at most six steps left.
+const CLOSING_STEPS: u16 = 48;
+
+// Slots lie in a row for each queue, as many as C may be.
+const ROW: usize = 64;
+
+const ALL_SLOTS: usize = 8 * ROW;
+
+// The table has a row of bottom, top, tag and the slots for each queue.
+const TABLE_ROW: usize = 3 + ROW;
+
+pub const TABLE_SIZE: usize = 8 * TABLE_ROW;
 
 // A queue of the bench: its control word, and how often it was reset.
 pub struct Queue {
@@ -35,8 +48,8 @@ pub struct Process {
     pub next: u16,
     pub stop: u16,
     pub start: u16,
-    pub back: u16,
-    pub seen: u16,
+    pub b2: u16,
+    pub resets_at_t1: u16,
 }
 
 // The state of a run, but for the slots and the log, which lie in arrays of their own. `refused`: a step was out of range.
@@ -56,11 +69,11 @@ pub enum Ended {
 }
 
 // A refusal gives its number, zero counts, a zero table and an empty part.
-fn refuse(number: u8, report: &mut [u16; 4], table: &mut [u16; 536]) -> usize
+fn refuse(number: u8, report: &mut [u16; 4], table: &mut [u16; TABLE_SIZE]) -> usize
     ensures { λ r. ⌜ (r ≡ 0) × (now (report .exit) ≡ number ∷ 0 ∷ 0 ∷ 0 ∷ []) × (now (table .exit) ≡ replicate tableSize 0) ⌝ }
 {
     *report = [number as u16, 0, 0, 0];
-    *table = [0; 536];
+    *table = [0; TABLE_SIZE];
     0
 }
 
@@ -72,13 +85,13 @@ fn finish(
     log: &mut [u8],
     buffer: &mut [u8],
     report: &mut [u16; 4],
-    table: &mut [u16; 536],
+    table: &mut [u16; TABLE_SIZE],
 ) -> usize
     requires { ⌜ Ends shape state (now slots) (now log) (now buffer) ⌝ }
     ensures { λ r. ⌜ Finishes (shape .processes) (shape .size) state (now (slots .entry)) (now (log .entry)) (now (buffer .entry)) r (now (buffer .exit)) (now (report .exit)) (now (table .exit)) ⌝ }
 {
     log::put_head(log, shape.processes, shape.size, state.entries);
-    let written = 5 + 12 * (state.entries as usize);
+    let written = log::HEAD_LENGTH + log::ENTRY_LENGTH * (state.entries as usize);
     bytes::copy(&log[..written], buffer);
     *report = [0, state.entries, state.steps, state.gone];
     table::fill(table, shape.processes, shape.size, state, slots);
@@ -91,17 +104,17 @@ fn run_good(
     shape: Shape,
     buffer: &mut [u8],
     report: &mut [u16; 4],
-    table: &mut [u16; 536],
+    table: &mut [u16; TABLE_SIZE],
 ) -> usize
     requires { ⌜ readingOf (fileOf (now file)) ≡ Reading.Good shape ⌝ }
     ensures { λ r. ⌜ Ran (now (file .entry)) (now (buffer .entry)) r (now (buffer .exit)) (now (report .exit)) (now (table .exit)) ⌝ }
 {
-    let room = 5 + 12 * (shape.calls as usize);
+    let room = log::HEAD_LENGTH + log::ENTRY_LENGTH * (shape.calls as usize);
     if buffer.len() < room {
         return refuse(8, report, table);
     }
-    let mut slots = [0u16; 512];
-    let mut log = [0u8; 3077];
+    let mut slots = [0u16; ALL_SLOTS];
+    let mut log = [0u8; log::LONGEST_LOG];
     let started = start::start(file, shape.processes);
     let from = shape.schedule_place();
     let to = from + shape.steps as usize;
@@ -119,7 +132,7 @@ pub fn run_len(
     file: &[u8],
     buffer: &mut [u8],
     report: &mut [u16; 4],
-    table: &mut [u16; 536],
+    table: &mut [u16; TABLE_SIZE],
 ) -> usize
     ensures { λ r. ⌜ Ran (now (file .entry)) (now (buffer .entry)) r (now (buffer .exit)) (now (report .exit)) (now (table .exit)) ⌝ }
 {
@@ -135,7 +148,7 @@ pub fn run<'a>(
     file: &[u8],
     buffer: &'a mut [u8],
     report: &mut [u16; 4],
-    table: &mut [u16; 536],
+    table: &mut [u16; TABLE_SIZE],
 ) -> &'a mut [u8]
     ensures { λ r. ⌜ HandsBack (now (file .entry)) (length (now (buffer .entry))) (now r) (now (report .exit)) (now (table .exit)) ⌝ }
     ensures { λ r. ⌜ r .ptr ≡ buffer .entry .ptr ⌝ }

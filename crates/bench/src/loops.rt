@@ -2,11 +2,12 @@
 ghost use mathlib.Core.Path.{_≡_};
 ghost use lib.ListN.{length};
 ghost use Rattle.runfile.specs.File.{firstCalls};
-ghost use Rattle.bench.specs.inner.Half.{bit as bitOf, halfDone};
-ghost use Rattle.bench.specs.inner.Layout.{stateIn, Becomes, ToPlay, ToClose};
-ghost use Rattle.bench.specs.Run.{play as playOf, close as closeOf, closingSteps};
+ghost use Rattle.runs.specs.inner.Half.{bit as bitOf, halfDone};
+ghost use Rattle.bench.specs.inner.Layout.{benchIn, stateIn, Becomes, ToPlay, ToClose};
+ghost use Rattle.runs.specs.Run.{play as playOf, close as closeOf, closingSteps};
 ghost use Rattle.word.specs.Stages.{isIdle};
 use crate::Bench;
+use crate::CLOSING_STEPS;
 use crate::moment::queue_of;
 use crate::turn::moves;
 use crate::turn::ready;
@@ -65,7 +66,7 @@ fn bit(stage: Stage) -> u8
 // The half-done processes, as a set of eight bits.
 fn half_done(state: Bench) -> u8
     requires { ⌜ length (state .processes) ≡ 8 ⌝ }
-    ensures { λ r. ⌜ r ≡ halfDone (state .processes) ⌝ }
+    ensures { λ r. ⌜ r ≡ halfDone (benchIn state .processes) ⌝ }
 {
     let mut set: u8 = 0;
     let mut i: usize = 8;
@@ -93,7 +94,7 @@ pub(crate) fn close(
 {
     let mut after = state;
     let mut done: u16 = 0;
-    while done < 48 {
+    while done < CLOSING_STEPS {
         let set = half_done(after);
         if set == 0 {
             return after;

@@ -1,7 +1,8 @@
 // The entry of a finished call, with its moment: document 01, "The log".
 ghost use mathlib.Core.Path.{_≡_};
 ghost use Prim.Native.Nat.{_≤_};
-ghost use Rattle.bench.specs.Moment.{queueOf, pushedNode, isTake, entry as entryOf, nilMoment, takeMoment, nodeEntry, nilEntry, ended as endedOf, goneRound};
+ghost use Rattle.bench.specs.inner.Layout.{processIn, endedIn};
+ghost use Rattle.runs.specs.Moment.{queueOf, pushedNode, isTake, entry as entryOf, nilMoment, takeMoment, nodeEntry, nilEntry, ended as endedOf, goneRound};
 use crate::Ended;
 use crate::Process;
 use log::Entry;
@@ -42,7 +43,7 @@ fn is_take(call: Call) -> bool
 
 // The entry of a call of process p, its record being of, that ends at step n.
 fn entry(p: u8, n: u16, of: Process, what: What, node: u16, moment: u16) -> Entry
-    ensures { λ r. ⌜ r ≡ entryOf p n of what node moment ⌝ }
+    ensures { λ r. ⌜ r ≡ entryOf p n (processIn of) what node moment ⌝ }
 {
     let call = of.call;
     Entry {
@@ -59,12 +60,12 @@ fn entry(p: u8, n: u16, of: Process, what: What, node: u16, moment: u16) -> Entr
 
 // A bottom pop with NIL: at B1, 2 × B1; at B7, 2 × B2 + 1.
 fn nil_moment(n: u16, of: Process) -> u16
-    requires { ⌜ (n ≤ 8191) × (of .back ≤ 8191) ⌝ }
-    ensures { λ r. ⌜ r ≡ nilMoment n of ⌝ }
+    requires { ⌜ (n ≤ 8191) × (of .b2 ≤ 8191) ⌝ }
+    ensures { λ r. ⌜ r ≡ nilMoment n (processIn of) ⌝ }
 {
     let stage = of.stage;
     if stage.past_b2() {
-        2 * of.back + 1
+        2 * of.b2 + 1
     } else {
         2 * n
     }
@@ -72,12 +73,12 @@ fn nil_moment(n: u16, of: Process) -> u16
 
 // A top pop with a node: 2 × T4, or 2 × B2 of the owner that was popping that node.
 fn take_moment(n: u16, owner: Process, t: u16) -> u16
-    requires { ⌜ (n ≤ 8191) × (owner .back ≤ 8191) ⌝ }
-    ensures { λ r. ⌜ r ≡ takeMoment n owner t ⌝ }
+    requires { ⌜ (n ≤ 8191) × (owner .b2 ≤ 8191) ⌝ }
+    ensures { λ r. ⌜ r ≡ takeMoment n (processIn owner) t ⌝ }
 {
     let stage = owner.stage;
     if stage.pops_slot(t) {
-        2 * owner.back
+        2 * owner.b2
     } else {
         2 * n
     }
@@ -85,21 +86,21 @@ fn take_moment(n: u16, owner: Process, t: u16) -> u16
 
 // The entry of a pop with a node.
 fn node_entry(p: u8, n: u16, of: Process, owner: Process, t: u16, x: u16) -> Entry
-    requires { ⌜ (n ≤ 8191) × (of .back ≤ 8191) × (owner .back ≤ 8191) ⌝ }
-    ensures { λ r. ⌜ r ≡ nodeEntry p n of owner t x ⌝ }
+    requires { ⌜ (n ≤ 8191) × (of .b2 ≤ 8191) × (owner .b2 ≤ 8191) ⌝ }
+    ensures { λ r. ⌜ r ≡ nodeEntry p n (processIn of) (processIn owner) t x ⌝ }
 {
     let call = of.call;
     if is_take(call) {
         entry(p, n, of, What::TopNode, x, take_moment(n, owner, t))
     } else {
-        entry(p, n, of, What::BottomNode, x, 2 * of.back)
+        entry(p, n, of, What::BottomNode, x, 2 * of.b2)
     }
 }
 
 // The entry of a pop with NIL.
 fn nil_entry(p: u8, n: u16, of: Process) -> Entry
-    requires { ⌜ (n ≤ 8191) × (of .back ≤ 8191) ⌝ }
-    ensures { λ r. ⌜ r ≡ nilEntry p n of ⌝ }
+    requires { ⌜ (n ≤ 8191) × (of .b2 ≤ 8191) ⌝ }
+    ensures { λ r. ⌜ r ≡ nilEntry p n (processIn of) ⌝ }
 {
     let call = of.call;
     if is_take(call) {
@@ -111,8 +112,8 @@ fn nil_entry(p: u8, n: u16, of: Process) -> Entry
 
 // What step n of process p ends: of is its record, owner that of its queue's owner, and t the queue's top, all before the step.
 pub(crate) fn ended(p: u8, n: u16, of: Process, owner: Process, t: u16, next: Next) -> Ended
-    requires { ⌜ (n ≤ 8191) × (of .back ≤ 8191) × (owner .back ≤ 8191) ⌝ }
-    ensures { λ r. ⌜ r ≡ endedOf p n of owner t next ⌝ }
+    requires { ⌜ (n ≤ 8191) × (of .b2 ≤ 8191) × (owner .b2 ≤ 8191) ⌝ }
+    ensures { λ r. ⌜ endedIn r ≡ endedOf p n (processIn of) (processIn owner) t next ⌝ }
 {
     let call = of.call;
     let node = pushed_node(call);
@@ -128,14 +129,14 @@ pub(crate) fn ended(p: u8, n: u16, of: Process, owner: Process, t: u16, next: Ne
 
 // How many gone-round takes a step is: a successful T4 whose queue was reset since its T1.
 pub(crate) fn gone_round(of: Process, resets: u16, next: Next) -> u16
-    ensures { λ r. ⌜ r ≡ goneRound of resets next ⌝ }
+    ensures { λ r. ⌜ r ≡ goneRound (processIn of) resets next ⌝ }
 {
     let call = of.call;
     match next {
         Next::Going(_) => 0,
         Next::Done => 0,
         Next::Node(_) => {
-            if is_take(call) & (of.seen != resets) {
+            if is_take(call) & (of.resets_at_t1 != resets) {
                 1
             } else {
                 0

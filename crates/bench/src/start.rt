@@ -4,7 +4,8 @@ ghost use Prim.Native.Nat.{_<_};
 ghost use lib.ListN.{take};
 ghost use Rattle.runfile.specs.Check.{sum};
 ghost use Rattle.runfile.specs.File.{firstLengths};
-ghost use Rattle.bench.specs.State.{waiting as waitingOf, fresh as freshOf, scripted as scriptedOf, startBench};
+ghost use Rattle.bench.specs.inner.Layout.{queueIn, processIn, benchIn};
+ghost use Rattle.runs.specs.State.{waiting as waitingOf, fresh as freshOf, scripted as scriptedOf, startBench};
 use crate::Bench;
 use crate::Process;
 use crate::Queue;
@@ -13,7 +14,7 @@ use word::Stage;
 use word::Word;
 
 pub(crate) fn fresh() -> Queue
-    ensures { λ r. ⌜ r ≡ freshOf ⌝ }
+    ensures { λ r. ⌜ queueIn r ≡ freshOf ⌝ }
 {
     Queue {
         word: Word {
@@ -27,7 +28,7 @@ pub(crate) fn fresh() -> Queue
 
 // A process before its first call, whose calls are those of the file from next to stop.
 pub(crate) fn waiting(next: u16, stop: u16) -> Process
-    ensures { λ r. ⌜ r ≡ waitingOf next stop ⌝ }
+    ensures { λ r. ⌜ processIn r ≡ waitingOf next stop ⌝ }
 {
     Process {
         stage: Stage::Idle,
@@ -35,8 +36,8 @@ pub(crate) fn waiting(next: u16, stop: u16) -> Process
         next,
         stop,
         start: 0,
-        back: 0,
-        seen: 0,
+        b2: 0,
+        resets_at_t1: 0,
     }
 }
 
@@ -53,7 +54,7 @@ fn calls_before(file: &[u8], processes: u8, p: u8) -> u16
 
 fn scripted(file: &[u8], processes: u8, p: u8) -> Process
     requires { ⌜ p < 8 ⌝ }
-    ensures { λ r. ⌜ r ≡ scriptedOf (firstLengths (now (file .entry)) processes) p ⌝ }
+    ensures { λ r. ⌜ processIn r ≡ scriptedOf (firstLengths (now (file .entry)) processes) p ⌝ }
 {
     let next = calls_before(file, processes, p);
     let stop = calls_before(file, processes, p + 1);
@@ -61,7 +62,7 @@ fn scripted(file: &[u8], processes: u8, p: u8) -> Process
 }
 
 pub(crate) fn start(file: &[u8], processes: u8) -> Bench
-    ensures { λ r. ⌜ r ≡ startBench (firstLengths (now (file .entry)) processes) ⌝ }
+    ensures { λ r. ⌜ (benchIn r ≡ startBench (firstLengths (now (file .entry)) processes)) × (r .entries ≡ 0) ⌝ }
 {
     let queue = fresh();
     let a = scripted(file, processes, 0);

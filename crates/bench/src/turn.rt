@@ -3,14 +3,15 @@ ghost use mathlib.Core.Path.{_≡_};
 ghost use mathlib.Core.Bool.{cond};
 ghost use Prim.Native.Nat.{_≤_, _<_};
 ghost use lib.ListN.{length, getD};
-ghost use Rattle.bench.specs.Moment.{queueOf};
+ghost use Rattle.runs.specs.Moment.{queueOf};
 ghost use Rattle.queue.specs.Step.{stageAfter};
-ghost use Rattle.bench.specs.inner.Layout.{putEntries, StepsIn, Moves};
+ghost use Rattle.bench.specs.inner.Layout.{allSlots, queueIn, processIn, endedIn, putEntries, StepsIn, Moves};
 ghost use Rattle.runfile.specs.File.{firstCalls};
-ghost use Rattle.bench.specs.Turn.{firstStage, begun as begunOf, processAfter, queueAfter, isRefused, count as countOf, entriesIn, ready as readyOf};
+ghost use Rattle.runs.specs.Turn.{firstStage, begun as begunOf, processAfter, queueAfter, isRefused, entriesIn, ready as readyOf};
 use crate::Ended;
 use crate::Process;
 use crate::Queue;
+use crate::ROW;
 use crate::moment;
 use queue::Next;
 use queue::Stepped;
@@ -32,7 +33,7 @@ fn first_stage(call: Call) -> Stage
 // A call starts at its first step.
 fn begun(n: u16, call: Call, of: Process) -> Process
     requires { ⌜ of .next < 65535 ⌝ }
-    ensures { λ r. ⌜ r ≡ begunOf n call of ⌝ }
+    ensures { λ r. ⌜ processIn r ≡ begunOf n call (processIn of) ⌝ }
 {
     Process {
         stage: first_stage(call),
@@ -77,20 +78,20 @@ fn if_so(test: bool, yes: u16, no: u16) -> u16
 
 // The record after step n of its process; resets are those of its queue before the step.
 fn process_after(n: u16, resets: u16, of: Process, next: Next) -> Process
-    ensures { λ r. ⌜ r ≡ processAfter n resets of next ⌝ }
+    ensures { λ r. ⌜ processIn r ≡ processAfter n resets (processIn of) next ⌝ }
 {
     let stage = of.stage;
     Process {
         stage: stage_after(next),
-        back: if_so(stage.at_b2(), n, of.back),
-        seen: if_so(stage.at_t1(), resets, of.seen),
+        b2: if_so(stage.at_b2(), n, of.b2),
+        resets_at_t1: if_so(stage.at_t1(), resets, of.resets_at_t1),
         ..of
     }
 }
 
 fn queue_after(before: Queue, stepped: Stepped) -> Queue
     requires { ⌜ before .resets ≤ 8191 ⌝ }
-    ensures { λ r. ⌜ r ≡ queueAfter before stepped ⌝ }
+    ensures { λ r. ⌜ queueIn r ≡ queueAfter (queueIn before) stepped ⌝ }
 {
     let word = stepped.word;
     let again = before.resets + 1;
@@ -102,16 +103,16 @@ fn queue_after(before: Queue, stepped: Stepped) -> Queue
 
 // The step of a queue on its part of the row of slots.
 fn step_slots(width: u8, size: u8, word: Word, slots: &mut [u16], q: u8, stage: Stage) -> Stepped
-    requires { ⌜ (length (now slots) ≡ 512) × (q < 8) × (size ≤ 64) ⌝ }
+    requires { ⌜ (length (now slots) ≡ allSlots) × (q < 8) × (size ≤ 64) ⌝ }
     ensures { λ r. ⌜ StepsIn width size word (now (slots .entry)) q stage r (now (slots .exit)) ⌝ }
 {
-    let from = 64 * (q as usize);
+    let from = ROW * (q as usize);
     let to = from + size as usize;
     queue::step_on(width, size, word, &mut slots[from..to], stage)
 }
 
 fn count(over: Ended) -> u16
-    ensures { λ r. ⌜ r ≡ countOf over ⌝ }
+    ensures { λ r. ⌜ r ≡ length (entriesIn (endedIn over)) ⌝ }
 {
     match over {
         Ended::Nothing => 0,
@@ -121,9 +122,9 @@ fn count(over: Ended) -> u16
 
 // Puts what a step ended after the n entries of the log.
 fn keep(log: &mut [u8], n: u16, over: Ended)
-    ensures { λ _. ⌜ now (log .exit) ≡ putEntries n (entriesIn over) (now (log .entry)) ⌝ }
+    ensures { λ _. ⌜ now (log .exit) ≡ putEntries n (entriesIn (endedIn over)) (now (log .entry)) ⌝ }
 {
-    let at = 5 + 12 * (n as usize);
+    let at = log::HEAD_LENGTH + log::ENTRY_LENGTH * (n as usize);
     match over {
         Ended::Nothing => {}
         Ended::Call(entry) => log::put_entry(log, at, entry),
@@ -151,8 +152,8 @@ pub(crate) fn moves(
     before: Queue,
     owner: Process,
 ) -> Moved
-    requires { ⌜ (n ≤ 8191) × (of .back ≤ 8191) × (owner .back ≤ 8191) × (before .resets ≤ 8191) × (length (now slots) ≡ 512) × (queueOf p (of .call) < 8) × (shape .size ≤ 64) ⌝ }
-    ensures { λ r. ⌜ Moves (shape .width) (shape .size) p n entries of before owner (now (slots .entry)) (now (log .entry)) r (now (slots .exit)) (now (log .exit)) ⌝ }
+    requires { ⌜ (n ≤ 8191) × (of .b2 ≤ 8191) × (owner .b2 ≤ 8191) × (before .resets ≤ 8191) × (length (now slots) ≡ allSlots) × (queueOf p (of .call) < 8) × (shape .size ≤ 64) ⌝ }
+    ensures { λ r. ⌜ Moves (shape .width) (shape .size) p n entries (processIn of) (queueIn before) (processIn owner) (now (slots .entry)) (now (log .entry)) r (now (slots .exit)) (now (log .exit)) ⌝ }
 {
     let stage = of.stage;
     let call = of.call;
@@ -186,7 +187,7 @@ fn call_in(file: &[u8], shape: Shape, k: u16) -> Call
 
 // An idle process with a call left begins it.
 pub(crate) fn ready(file: &[u8], shape: Shape, n: u16, of: Process) -> Process
-    ensures { λ r. ⌜ r ≡ readyOf (firstCalls (now (file .entry)) (shape .processes) (shape .calls)) n of ⌝ }
+    ensures { λ r. ⌜ processIn r ≡ readyOf (firstCalls (now (file .entry)) (shape .processes) (shape .calls)) n (processIn of) ⌝ }
 {
     let stage = of.stage;
     let k = of.next;

@@ -1,5 +1,5 @@
--- What the desk's promise says in document 01's words; lines byte by byte; what is printed is read back; and that the promises settle their answers.
+-- What the desk's promise says in document 01's words; and that the promise settles the answer.
 pub mod DeskLaws
-pub mod LineLaws
-pub mod PrintedLaws
 pub mod Settled
+-- Machine values, for the walks by hand.
+mod Values

@@ -6,19 +6,10 @@ use Rattle.base.proofs.Settled.{one-value}
 use Rattle.word.specs.declared.Word.{Word}
 use Rattle.word.specs.declared.Stage.{Stage}
 use Rattle.desk.specs.declared.Answer.{Answer}
-use Rattle.desk.specs.declared.lines.Line.{Line}
-use Rattle.desk.specs.declared.lines.Sizes.{Sizes}
 use Rattle.desk.specs.Desk.{AtDesk}
-use Rattle.desk.specs.Line.{lineOf, sizesOf}
 
 -- of the desk's steps, the word lent or by value
 pub at-desk : (W C : ℕ) (w : Word) (slots : List ℕ) (s : Stage) (a a′ : Answer) (v v′ : Word) (l l′ : List ℕ) →
     AtDesk W C w slots s a v l → AtDesk W C w slots s a′ v′ l′ → (a ≡ a′) × (v ≡ v′) × (l ≡ l′)
 at-desk W C w slots s a a′ v v′ l l′ p q =
     (one-value (p .answered) (q .answered), one-value (p .altered) (q .altered), one-value (p .kept) (q .kept))
-
-pub read-stage : (s : List ℕ) (r r′ : Line) → r ≡ lineOf s → r′ ≡ lineOf s → r ≡ r′
-read-stage s r r′ = one-value
-
-pub read-sizes : (s : List ℕ) (r r′ : Sizes) → r ≡ sizesOf s → r′ ≡ sizesOf s → r ≡ r′
-read-sizes s r r′ = one-value

@@ -1,97 +1,120 @@
--- Lines, each with what it says, computed on the definitions that the readers are proved to follow.
+-- Steps at the desk, computed: K1 by hand, K4's tag that goes round and K5's that does not, and each refusal of document 01's list.
 use mathlib.Core.Path.{_≡_, refl}
-use mathlib.Core.List.{List, [], _∷_, map}
-use Prim.Native.String.{String}
+use mathlib.Core.List.{List, [], _∷_}
+use Prim.Native.Nat.{ℕ}
+use lib.ListN.{replicate}
+use Rattle.desk.specs.Desk.{numberOf, stageOf, resultOf, deskAnswer, deskWord, deskSlots}
+use Rattle.word.specs.declared.Word.{Word}
+use Rattle.word.specs.declared.Stage.{Stage}
 use Rattle.word.specs.declared.Stage.the-variants.{Idle, P1, P2, P3, T1, T2, T3, T4, B1, B2, B3, B4, B5, B6, B7}
-use Rattle.desk.specs.declared.lines.Line.{Line}
-use Rattle.desk.specs.declared.lines.Line.the-variants.{Stage, Wrong}
-use Rattle.desk.specs.declared.lines.Why.the-variants.{Nothing, NoStage, Count, NoNumber}
-use Rattle.desk.specs.declared.lines.Sizes.{Sizes}
-use Rattle.desk.specs.declared.lines.Sizes.the-variants as sizes
-use Rattle.desk.specs.declared.lines.SizesWhy.{SizesWhy}
-use Rattle.desk.specs.declared.lines.SizesWhy.the-variants as sizes-why
-use Rattle.desk.specs.Text.{typed}
-use Rattle.desk.specs.Line.{lineOf, sizesOf}
+use Rattle.desk.specs.declared.Answer.{Answer}
+use Rattle.desk.specs.declared.Answer.the-variants.{Going, Done, Node, Nil, Full, Refused}
 
-pub record Case : Type 0 where
-  pub text : String
-  pub line : Line
+abbrev word : ℕ → ℕ → ℕ → Word
+word b t g = record { bottom = b; top = t; tag = g }
 
-infix 20 _says_
-abbrev _says_ : String → Line → Case
-text says line = record { text = text; line = line }
+-- the desk at W and C, lent a word, slots and a stage, gives an answer and leaves a word and slots
+abbrev Gives : ℕ → ℕ → Word → List ℕ → Stage → Answer → Word → List ℕ → Type 0
+Gives W C w slots s answer w′ slots′ = (deskAnswer W C w slots s ≡ answer) × (deskWord W C w slots s ≡ w′) × (deskSlots W C w slots s ≡ slots′)
 
-abbrev pub cases : List Case
-cases =
-    -- the fifteen stages
-    ("idle" says Stage Idle) ∷
-    ("P1 7" says Stage (P1 7)) ∷
-    ("P2 7 3" says Stage (P2 7 3)) ∷
-    ("P3 3" says Stage (P3 3)) ∷
-    ("T1" says Stage T1) ∷
-    ("T2 1 255" says Stage (T2 1 255)) ∷
-    ("T3 1 255 4" says Stage (T3 1 255 4)) ∷
-    ("T4 1 255 4 7" says Stage (T4 1 255 4 7)) ∷
-    ("B1" says Stage B1) ∷
-    ("B2 4" says Stage (B2 4)) ∷
-    ("B3 4" says Stage (B3 4)) ∷
-    ("B4 4 7" says Stage (B4 4 7)) ∷
-    ("B5 4 7 1 255" says Stage (B5 4 7 1 255)) ∷
-    ("B6 4 7 1 255" says Stage (B6 4 7 1 255)) ∷
-    ("B7 4 7 1 255" says Stage (B7 4 7 1 255)) ∷
-    -- small letters, blanks, zeros in front
-    ("t2 1 255" says Stage (T2 1 255)) ∷
-    ("Idle" says Stage Idle) ∷
-    ("  T2\t1   255 \r" says Stage (T2 1 255)) ∷
-    ("P1 007" says Stage (P1 7)) ∷
-    -- numbers to 65,535
-    ("P1 0" says Stage (P1 0)) ∷
-    ("P1 65535" says Stage (P1 65535)) ∷
-    ("P1 65536" says Wrong (NoNumber (P1 0))) ∷
-    ("P1 99999999999999999999" says Wrong (NoNumber (P1 0))) ∷
-    ("P1 7x" says Wrong (NoNumber (P1 0))) ∷
-    ("P1 -7" says Wrong (NoNumber (P1 0))) ∷
-    ("T3 1 2 T" says Wrong (NoNumber (T3 1 2 0))) ∷
-    -- a word too many, and too few
-    ("T1 0" says Wrong (Count T1)) ∷
-    ("T2 1" says Wrong (Count (T2 1 0))) ∷
-    ("T3 1 2 3 4" says Wrong (Count (T3 1 2 3))) ∷
-    ("B7 1 2 3" says Wrong (Count (B7 1 2 3 0))) ∷
-    ("B7 1 2 3 4 5" says Wrong (Count (B7 1 2 3 4))) ∷
-    ("B7 1 2 3 4 5 6 7 8" says Wrong (Count (B7 1 2 3 4))) ∷
-    ("P1" says Wrong (Count (P1 0))) ∷
-    -- the number of words is looked at before they are
-    ("P1 x y" says Wrong (Count (P1 0))) ∷
-    -- no stage
-    ("P4 1" says Wrong NoStage) ∷
-    ("T5" says Wrong NoStage) ∷
-    ("B8 1" says Wrong NoStage) ∷
-    ("P" says Wrong NoStage) ∷
-    ("P11" says Wrong NoStage) ∷
-    ("P17" says Wrong NoStage) ∷
-    ("idles" says Wrong NoStage) ∷
-    ("8 4" says Wrong NoStage) ∷
-    ("\0T1" says Wrong NoStage) ∷
-    ("T1\0" says Wrong NoStage) ∷
-    -- nothing
-    ("" says Wrong Nothing) ∷
-    (" \t\r" says Wrong Nothing) ∷
-    []
+-- four slots with a node in slot 0
+abbrev slots : ℕ → List ℕ
+slots node = node ∷ 0 ∷ 0 ∷ 0 ∷ []
 
-pub worked : map (λ (c : Case). lineOf (typed (c .text))) cases ≡ map (λ (c : Case). c .line) cases
-worked = refl
+-- K1's push, on a fresh word
+K1-push : Gives 8 4 (word 0 0 0) (slots 0) (P1 7) (Going (P2 7 0)) (word 0 0 0) (slots 0)
+    × Gives 8 4 (word 0 0 0) (slots 0) (P2 7 0) (Going (P3 0)) (word 0 0 0) (slots 7)
+    × Gives 8 4 (word 0 0 0) (slots 7) (P3 0) Done (word 1 0 0) (slots 7)
+K1-push = ((refl, refl, refl), (refl, refl, refl), (refl, refl, refl))
 
-abbrev read : List String → List Sizes
-read = map (λ (s : String). sizesOf (typed s))
+-- the other process's T1 to T3
+K1-thief : Gives 8 4 (word 1 0 0) (slots 7) T1 (Going (T2 0 0)) (word 1 0 0) (slots 7)
+    × Gives 8 4 (word 1 0 0) (slots 7) (T2 0 0) (Going (T3 0 0 1)) (word 1 0 0) (slots 7)
+    × Gives 8 4 (word 1 0 0) (slots 7) (T3 0 0 1) (Going (T4 0 0 1 7)) (word 1 0 0) (slots 7)
+K1-thief = ((refl, refl, refl), (refl, refl, refl), (refl, refl, refl))
 
-abbrev wrong : List SizesWhy → List Sizes
-wrong = map (λ (w : SizesWhy). sizes.Wrong w)
+-- the owner's B1 and B2, and the T4 that takes the node past them
+K1-taken : Gives 8 4 (word 1 0 0) (slots 7) B1 (Going (B2 1)) (word 1 0 0) (slots 7)
+    × Gives 8 4 (word 1 0 0) (slots 7) (B2 1) (Going (B3 1)) (word 0 0 0) (slots 7)
+    × Gives 8 4 (word 0 0 0) (slots 7) (T4 0 0 1 7) (Node 7) (word 0 1 0) (slots 7)
+K1-taken = ((refl, refl, refl), (refl, refl, refl), (refl, refl, refl))
 
--- W is 1 to 16, C 1 to 64
-pub sizes-worked :
-    (read ("8 4" ∷ " 1\t1 \r" ∷ "16 64" ∷ []) ≡ sizes.Good 8 4 ∷ sizes.Good 1 1 ∷ sizes.Good 16 64 ∷ [])
-    × (read ("0 4" ∷ "17 4" ∷ "x 4" ∷ "65552 4" ∷ []) ≡ wrong (sizes-why.Width ∷ sizes-why.Width ∷ sizes-why.Width ∷ sizes-why.Width ∷ []))
-    × (read ("8 0" ∷ "8 65" ∷ "8 4x" ∷ "8 65600" ∷ []) ≡ wrong (sizes-why.Size ∷ sizes-why.Size ∷ sizes-why.Size ∷ sizes-why.Size ∷ []))
-    × (read ("8" ∷ "8 4 2" ∷ "1 2 3 4 5 6 7 8 9" ∷ []) ≡ wrong (sizes-why.NotTwo ∷ sizes-why.NotTwo ∷ sizes-why.NotTwo ∷ []))
-    × (read ("" ∷ " \t" ∷ []) ≡ wrong (sizes-why.Nothing ∷ sizes-why.Nothing ∷ []))
-sizes-worked = (refl, refl, refl, refl, refl)
+-- the closing: the owner goes on to B7, and has NIL
+K1-closed : Gives 8 4 (word 0 1 0) (slots 7) (B3 1) (Going (B4 1 7)) (word 0 1 0) (slots 7)
+    × Gives 8 4 (word 0 1 0) (slots 7) (B4 1 7) (Going (B5 1 7 1 0)) (word 0 1 0) (slots 7)
+    × Gives 8 4 (word 0 1 0) (slots 7) (B5 1 7 1 0) (Going (B7 1 7 1 0)) (word 0 1 0) (slots 7)
+    × Gives 8 4 (word 0 1 0) (slots 7) (B7 1 7 1 0) Nil (word 0 0 1) (slots 7)
+K1-closed = ((refl, refl, refl), (refl, refl, refl), (refl, refl, refl), (refl, refl, refl))
+
+-- K4: at W = 1 two resets bring the tag back, and a T4 from before them gets its node, though slot 0 has another
+K4-round : Gives 1 4 (word 0 0 0) (slots 1) (B6 1 1 0 0) (Node 1) (word 0 0 1) (slots 1)
+    × Gives 1 4 (word 0 0 1) (slots 2) (B6 1 2 0 1) (Node 2) (word 0 0 0) (slots 2)
+    × Gives 1 4 (word 1 0 0) (slots 3) (T4 0 0 1 1) (Node 1) (word 1 1 0) (slots 3)
+K4-round = ((refl, refl, refl), (refl, refl, refl), (refl, refl, refl))
+
+-- K5: at W = 2 the tag is then 2, and the T4 has NIL
+K5-not-round : Gives 2 4 (word 0 0 1) (slots 2) (B6 1 2 0 1) (Node 2) (word 0 0 2) (slots 2)
+    × Gives 2 4 (word 1 0 2) (slots 3) (T4 0 0 1 1) Nil (word 1 0 2) (slots 3)
+K5-not-round = ((refl, refl, refl), (refl, refl, refl))
+
+-- K6: FULL at C = 1; a node of any 16-bit value; an idle stage
+edges : Gives 8 1 (word 1 0 0) (5 ∷ []) (P1 6) Full (word 1 0 0) (5 ∷ [])
+    × Gives 16 1 (word 0 0 65535) (5 ∷ []) (P2 0 0) (Going (P3 0)) (word 0 0 65535) (0 ∷ [])
+    × Gives 16 1 (word 0 0 65535) (5 ∷ []) (P2 65535 0) (Going (P3 0)) (word 0 0 65535) (65535 ∷ [])
+    × Gives 8 4 (word 1 0 0) (slots 7) Idle (Going Idle) (word 1 0 0) (slots 7)
+edges = ((refl, refl, refl), (refl, refl, refl), (refl, refl, refl), (refl, refl, refl))
+
+-- the paper's numbers and values for an answer of each kind
+numbered : (numberOf (Node 7) ≡ 0) × (numberOf (Refused T1) ≡ 10)
+    × (stageOf (Going (P3 0)) ≡ P3 0) × (stageOf (Node 7) ≡ Idle) × (stageOf (Refused (B2 0)) ≡ B2 0)
+    × (resultOf (Node 7) ≡ 1 ∷ 7 ∷ []) × (resultOf Nil ≡ 0 ∷ 0 ∷ []) × (resultOf Full ≡ 2 ∷ []) × (resultOf Done ≡ 1 ∷ [])
+numbered = (refl, refl, refl, refl, refl, refl, refl, refl, refl)
+
+-- the desk refuses, and alters nothing
+abbrev Refusal : ℕ → ℕ → Word → List ℕ → Stage → Type 0
+Refusal W C w slots s = Gives W C w slots s (Refused s) w slots
+
+-- a stage is refused where W is 8, C is 4 and all else is 0
+abbrev StageRefusal : Stage → Type 0
+StageRefusal s = Refusal 8 4 (word 0 0 0) (slots 0) s
+
+-- W not 1 to 16, C not 1 to 64, the slots not C in number
+sizes-refused : Refusal 0 4 (word 0 0 0) (slots 0) B1 × Refusal 17 4 (word 0 0 0) (slots 0) B1 × Refusal 8 0 (word 0 0 0) [] B1
+    × Refusal 8 65 (word 0 0 0) (replicate 65 0) B1 × Refusal 8 3 (word 0 0 0) (slots 0) B1 × Refusal 8 5 (word 0 0 0) (slots 0) B1
+sizes-refused = ((refl, refl, refl), (refl, refl, refl), (refl, refl, refl), (refl, refl, refl), (refl, refl, refl), (refl, refl, refl))
+
+-- a bottom or top of the word above C, its tag not below 2^W; so also where the stage is idle
+word-refused : Refusal 8 4 (word 5 0 0) (slots 0) B1 × Refusal 8 4 (word 0 5 0) (slots 0) B1 × Refusal 8 4 (word 0 0 256) (slots 0) B1
+    × Refusal 8 4 (word 5 0 0) (slots 0) Idle
+word-refused = ((refl, refl, refl), (refl, refl, refl), (refl, refl, refl), (refl, refl, refl))
+
+-- a loaded b or t above C, a loaded tag not below 2^W
+loads-refused : StageRefusal (P2 7 5) × StageRefusal (T3 0 0 5) × StageRefusal (B2 5) × StageRefusal (T2 5 0) × StageRefusal (B5 1 7 5 0)
+    × StageRefusal (T2 0 256) × StageRefusal (T4 0 256 1 7) × StageRefusal (B7 1 7 0 256)
+loads-refused = (
+  (refl, refl, refl),
+  (refl, refl, refl),
+  (refl, refl, refl),
+  (refl, refl, refl),
+  (refl, refl, refl),
+  (refl, refl, refl),
+  (refl, refl, refl),
+  (refl, refl, refl),
+)
+
+-- b at P2 or P3 equal to C, t at T3 or T4 equal to C, b at B2 to B7 equal to 0
+edges-refused : StageRefusal (P2 7 4) × StageRefusal (P3 4) × StageRefusal (T3 4 0 4) × StageRefusal (T4 4 0 4 7)
+    × StageRefusal (B2 0) × StageRefusal (B3 0) × StageRefusal (B4 0 7)
+    × StageRefusal (B5 0 7 0 0) × StageRefusal (B6 0 7 0 0) × StageRefusal (B7 0 7 0 0)
+edges-refused = (
+  (refl, refl, refl),
+  (refl, refl, refl),
+  (refl, refl, refl),
+  (refl, refl, refl),
+  (refl, refl, refl),
+  (refl, refl, refl),
+  (refl, refl, refl),
+  (refl, refl, refl),
+  (refl, refl, refl),
+  (refl, refl, refl),
+)

@@ -1,10 +1,6 @@
 // The desk: one queue stepped by hand, one access a call, its control word altered where it stands.
 ghost use mathlib.Core.Path.{_≡_};
 ghost use Rattle.desk.specs.Desk.{answerOf, AtDesk};
-
-pub mod lines; // what a line typed at the desk says
-mod words; // the words of a line
-
 use queue::Next;
 use queue::step_on;
 use word::Stage;
@@ -57,4 +53,13 @@ pub fn step(width: u8, size: u8, word: &mut Word, slots: &mut [u16], stage: Stag
     let desk = step_by_value(width, size, *word, slots, stage);
     *word = desk.word;
     desk.answer
+}
+
+// The desk's step for a program that keeps the word by value: the word is lent to `step`.
+pub fn step_lending(width: u8, size: u8, word: Word, slots: &mut [u16], stage: Stage) -> Desk
+    ensures { λ r. ⌜ AtDesk width size word (now (slots .entry)) stage (r .answer) (r .word) (now (slots .exit)) ⌝ }
+{
+    let mut lent = word;
+    let answer = step(width, size, &mut lent, slots, stage);
+    Desk { word: lent, answer }
 }

@@ -1,7 +1,7 @@
 // What the desk prints: after a step a line with the word, the slots, and the next stage or the result; of a line that is not run, why.
 use desk::Answer;
-use desk::lines::SizesWhy;
-use desk::lines::Why;
+use lines::SizesWhy;
+use lines::Why;
 use stdio::each;
 use stdio::number;
 use stdio::text;

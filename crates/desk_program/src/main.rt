@@ -1,7 +1,7 @@
 // The desk: one queue stepped by hand, by the lines on standard input. Each line is answered before the next is read.
 ghost use Prim.Native.Nat.{_≤_};
-use desk::lines::Line;
-use desk::lines::Sizes;
+use lines::Line;
+use lines::Sizes;
 use word::Stage;
 use word::Word;
 
@@ -71,7 +71,7 @@ fn read_line(buffer: &mut [u8]) -> usize {
 
 // Does the step of a stage and prints what came of it.
 fn step(width: u8, size: u8, word: Word, slots: &mut [u16], stage: Stage) -> Word {
-    let after = desk::step_by_value(width, size, word, slots, stage);
+    let after = desk::step_lending(width, size, word, slots, stage);
     let word = after.word;
     let answer = after.answer;
     answers::queue(word, slots);
@@ -96,7 +96,7 @@ fn answer_line(width: u8, size: u8, word: Word, slots: &mut [u16]) -> Turn {
             word: word,
         };
     }
-    let line = desk::lines::read_stage(&buffer[..n]);
+    let line = lines::read_stage(&buffer[..n]);
     match line {
         Line::Stage(stage) => {
             let after = step(width, size, word, slots, stage);
@@ -151,7 +151,7 @@ fn opening() -> bool {
         answers::too_long();
         return true;
     }
-    let sizes = desk::lines::read_sizes(&buffer[..n]);
+    let sizes = lines::read_sizes(&buffer[..n]);
     match sizes {
         Sizes::Good { width, size } => {
             steps(width, size);

@@ -25,7 +25,7 @@ fn print_run(log: &[u8], entries: u16, steps: u16, gone: u16) {
 fn run_file(file: &[u8]) {
     let mut buffer = [0u8; log::LONGEST_LOG];
     let mut report = [0u16; 4];
-    let mut table = [0u16; 536];
+    let mut table = [0u16; bench::TABLE_SIZE];
     let log = bench::run(file, &mut buffer, &mut report, &mut table);
     if report[0] != 0 {
         print::refused(report[0]);

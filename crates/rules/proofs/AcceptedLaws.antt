@@ -1,7 +1,7 @@
 -- The verdict is 0 exactly for the bytes of an accepted log. First over f and n, rule by rule, then over bytes.
 use mathlib.Core.Path.{_≡_, refl, sym, ap, _∙_, subst}
 use mathlib.Core.Bool.{Bool, true, false, cond, _&&_, not}
-use mathlib.Core.Logic.{_⊎_, inl, inr, _↔_}
+use mathlib.Core.Logic.{_⊎_, inl, inr}
 use mathlib.Core.List.{List, [], _∷_, _++_}
 use Prim.Native.Nat.{ℕ, suc, _+_, _-_, _*_, _≤_, _<_}
 use native.Mathlib.Omega.{arith}
@@ -22,7 +22,7 @@ use Rattle.rules.specs.Search.{any}
 use Rattle.rules.specs.Contents.{bears, on, before}
 use Rattle.rules.specs.Rules.{clash, bearsAt, isEmpty, topIs, bottomIs, addedBefore, fresh, lawful, lawfulAt, inCall, emptyWithin, takesTopmost, removes, hasCause, donePushes, breaks1, breaks2, breaks3, breaks4, breaks5, breaks6}
 use Rattle.rules.specs.Judge.{says, first1, first2, first3, first4, first5, first6, worst4, orElse, rulesOf, headRight, judgeOf}
-use Rattle.rules.specs.Accepted.{TopIs, BottomIs, Rule4, EmptyIn, RemovedIn, Accepted, entryOf, AcceptedLog, AcceptedBytes}
+use Rattle.rules.specs.Accepted.{TopIs, BottomIs, Rule4, EmptyIn, RemovedIn, Accepted, entryOf, AcceptedLog, AcceptedBytes, JudgedZero}
 use Rattle.base.proofs.Bools.{contra, not-so, and-i, and-0, and-1, or-l, or-r, or-e, guarded, not-i, not-e, not-f}
 use Rattle.rules.proofs.SearchLaws.{from-i, from-e, Found, any-e, any-i, none-passes, none, any-no, Hit, lowest-is, lowest-le}
 use Rattle.rules.proofs.FieldLaws.{fields-back, order-back, moment, moment-back}
@@ -317,8 +317,7 @@ judged-accepted bytes ok z =
         rw (entries-are l, processes-decoded l, slots-decoded l, entry-count-decoded l) at
         (subst (λ (b : List ℕ). Accepted (entryAt b) (entryCountOf b) (processesOf b) (slotsOf b)) (sym e) a)
 
--- The judge gives 0 exactly for the bytes of an accepted log.
-pub judged-0 : (bytes : List ℕ) → Bytes bytes → (judgeOf bytes .number ≡ 0) ↔ AcceptedBytes bytes
+pub judged-0 : JudgedZero
 judged-0 bytes ok = (
   judged-accepted bytes ok,
   λ a. ap (λ (b : List ℕ). judgeOf b .number) (a .is)

@@ -3,17 +3,19 @@
 use Prim.Native.Nat.{ℕ, suc, _+_, _*_, _≤_, _<_}
 use mathlib.Core.Path.{_≡_}
 use mathlib.Core.Bool.{true, false}
-use mathlib.Core.Logic.{_⊎_}
+use mathlib.Core.Logic.{_⊎_, _↔_}
 use mathlib.Core.List.{List, [], _∷_, _++_}
 use lib.ListN.{length, getD}
 use Rattle.log.specs.declared.Entry.{Entry}
 use Rattle.log.specs.declared.What.{What}
 use Rattle.log.specs.declared.What.the-variants.{Pushed, Full, BottomNode, BottomNil, TopNode, TopNil}
 use Rattle.log.specs.Numbers.{push, bottomPop, topPop, nil, full, noMoment, what}
+use Rattle.base.specs.Bytes.{Bytes}
 use Rattle.log.specs.Decode.{firstEntry}
 use Rattle.log.specs.Encode.{Log, InRange, logBytes}
 use Rattle.rules.specs.Contents.{bears, before}
 use Rattle.rules.specs.Rules.{lastEnd, donePushes}
+use Rattle.rules.specs.Judge.{judgeOf}
 
 -- Rule 1. Fields:
 pub record Rule1 (P : ℕ) (e : Entry) : Type 0 where
@@ -120,3 +122,7 @@ pub record AcceptedBytes (bytes : List ℕ) : Type 0 where
   pub in-range : InRange log
   pub accepted : AcceptedLog log
   pub is : bytes ≡ logBytes log
+
+-- The judge gives 0 exactly for the bytes of an accepted log.
+abbrev pub JudgedZero : Type 0
+JudgedZero = (bytes : List ℕ) → Bytes bytes → (judgeOf bytes .number ≡ 0) ↔ AcceptedBytes bytes

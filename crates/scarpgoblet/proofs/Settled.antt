@@ -3,7 +3,7 @@ use Prim.Native.Nat.{ℕ}
 use mathlib.Core.Path.{_≡_}
 use mathlib.Core.List.{List}
 use Rattle.base.proofs.Settled.{one-value}
-use Rattle.bench.specs.Promise.{Ran}
+use Rattle.runs.specs.Promise.{Ran}
 use Rattle.rules.specs.Judge.{judgeOf}
 
 -- the number of bytes, the buffer, the report and the table

@@ -1,6 +1,6 @@
 // The bench and the judge for a host program in C: include/scarpgoblet.h says what a host may count on.
 ghost use mathlib.Core.Path.{_≡_};
-ghost use Rattle.bench.specs.Promise.{Ran};
+ghost use Rattle.runs.specs.Promise.{Ran};
 ghost use Rattle.rules.specs.Judge.{judgeOf};
 
 // Runs a file, and gives the number of bytes of the log that it wrote at the front of the host's buffer.
@@ -9,7 +9,7 @@ pub extern "C" fn scarpgoblet_run(
     file: &[u8],
     log: &mut [u8],
     report: &mut [u16; 4],
-    table: &mut [u16; 536],
+    table: &mut [u16; bench::TABLE_SIZE],
 ) -> usize
     ensures { λ r. ⌜ Ran (now (file .entry)) (now (log .entry)) r (now (log .exit)) (now (report .exit)) (now (table .exit)) ⌝ }
 {

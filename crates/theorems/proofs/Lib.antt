@@ -8,3 +8,5 @@ pub mod rules
 pub mod tags
 -- A run replayed at the desk.
 pub mod replay
+-- What the programs promise: a run judged, and the wrong programs that are shut out.
+pub mod programs

@@ -1,4 +1,3 @@
 pub mod Accepted
-pub mod Programs
 pub mod Room
 pub mod Rules

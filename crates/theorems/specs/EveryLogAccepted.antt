@@ -3,7 +3,7 @@ use Prim.Native.Nat.{ℕ}
 use mathlib.Core.Path.{_≡_}
 use mathlib.Core.List.{List}
 use Rattle.base.specs.Bytes.{Bytes}
-use Rattle.bench.specs.Run.{runOf}
+use Rattle.runs.specs.Run.{runOf}
 use Rattle.rules.specs.Judge.{says, judgeOf}
 
 abbrev pub EveryLogAccepted : Type 0

@@ -16,13 +16,11 @@ use Rattle.desk.specs.declared.Answer.{Answer}
 use Rattle.base.specs.Bytes.{Bytes}
 use Rattle.runfile.specs.File.{RunFile, good, script, recordIn, fileOf}
 use Rattle.runfile.specs.declared.Call.{Call}
-use Rattle.bench.specs.Moment.{queueOf}
-use Rattle.bench.specs.Run.{play, lowest, closingSteps, closed, tableRow, tableSize, Outcome, runOf, played, closingStep}
-use Rattle.bench.specs.State.{State, fresh, processAt, start}
-use Rattle.bench.specs.Turn.{firstStage, act, turn, turning}
-use Rattle.bench.specs.Worked.{Case, K1, runs}
-use Rattle.bench.specs.declared.Process.{Process}
-use Rattle.bench.specs.declared.Queue.{Queue}
+use Rattle.runs.specs.Moment.{queueOf}
+use Rattle.runs.specs.Run.{play, lowest, closingSteps, closed, tableRow, tableRowLength, tableSize, Outcome, runOf, played, closingStep}
+use Rattle.runs.specs.State.{Process, Queue, State, fresh, processAt, start}
+use Rattle.runs.specs.Turn.{firstStage, act, turn, turning}
+use Rattle.runs.specs.Worked.{Case, K1, runs}
 
 -- the table: the words and the slots of eight queues
 pub record Table : Type 0 where
@@ -41,7 +39,9 @@ freshTable C = record { words = replicate 8 (fresh .word); slots = replicate 8 (
 
 -- its numbers as a run gives them
 abbrev pub numberAt : ℕ → Table → ℕ → ℕ
-numberAt P t k = cond (ltb (k / 67) P) (getD (tableRow (wordAt t (k / 67)) (slotsAt t (k / 67))) (k % 67) 0) 0
+numberAt P t k =
+    let q : ℕ = k / tableRowLength in
+    cond (ltb q P) (getD (tableRow (wordAt t q) (slotsAt t q)) (k % tableRowLength) 0) 0
 
 abbrev pub numbers : ℕ → Table → List ℕ
 numbers P t = listOf tableSize (numberAt P t)

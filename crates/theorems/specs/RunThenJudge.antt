@@ -5,7 +5,7 @@ use mathlib.Core.Path.{_≡_}
 use mathlib.Core.List.{List}
 use lib.ListN.{getD, take}
 use Rattle.base.specs.Bytes.{Bytes}
-use Rattle.bench.specs.Promise.{Ran, HandsBack}
+use Rattle.runs.specs.Promise.{Ran, HandsBack}
 use Rattle.rules.specs.Judge.{says, judgeOf}
 use Rattle.rules.specs.declared.Verdict.{Verdict}
 

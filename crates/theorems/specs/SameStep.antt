@@ -9,10 +9,9 @@ use Rattle.queue.specs.Step.{stored, steppedOn, stageAfter}
 use Rattle.queue.specs.declared.Stepped.{Stepped}
 use Rattle.desk.specs.Desk.{answerOf, AtDesk}
 use Rattle.desk.specs.declared.Answer.{Answer}
-use Rattle.bench.specs.Moment.{queueOf}
-use Rattle.bench.specs.State.{State, queueAt, processAt}
-use Rattle.bench.specs.Turn.{act}
-use Rattle.bench.specs.declared.Process.{Process}
+use Rattle.runs.specs.Moment.{queueOf}
+use Rattle.runs.specs.State.{Process, State, queueAt, processAt}
+use Rattle.runs.specs.Turn.{act}
 
 -- process p, whose record is r, makes a step in a run: o is the step of its queue
 pub record SameStep (W C p : ℕ) (r : Process) (s : State) (o : Stepped) : Type 0 where

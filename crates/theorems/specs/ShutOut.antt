@@ -1,92 +1,71 @@
--- The wrong programs that document 01 shuts out by name: of each, that it cannot keep the promise.
+-- The wrong programs that document 01 shuts out by name: of each, that it cannot keep the promise. A bench here is whatever keeps the promise of `run`;
+-- what keeps that of `run_len`, as the function for a host in C does, keeps it too, with the written front part of its buffer.
 use Prim.Native.Nat.{ℕ}
-use mathlib.Core.Path.{_≡_, sym, ap, _∙_}
+use mathlib.Core.Path.{_≡_}
 use mathlib.Core.List.{List}
-use native.Mathlib.Omega.{arith}
-use lib.ListN.{length, getD, replicate}
-use Rattle.bench.specs.Run.{Outcome, tableSize, runOf}
-use Rattle.bench.specs.Worked.{Case, K1, K3, K4, K8}
-use Rattle.rules.specs.Contents.{before}
+use lib.ListN.{length, getD, take, replicate}
+use Rattle.base.specs.Bytes.{Bytes}
+use Rattle.log.specs.Decode.{entryAt}
+use Rattle.runs.specs.Promise.{Ran, HandsBack}
+use Rattle.runs.specs.Run.{tableSize}
+use Rattle.runs.specs.Worked.{Case, K3, room}
 use Rattle.rules.specs.Judge.{judgeOf}
 use Rattle.rules.specs.declared.Verdict.{Verdict}
-use Rattle.log.specs.Decode.{entryAt}
-use Rattle.log.specs.Encode.{logBytes}
-use Rattle.theorems.specs.WorkedRuns.{room}
 
--- what a bench and a judge give, and that they keep their promises: `Ran` and the judge's equation say this of the programs
-abbrev pub Bench : Type 0
-Bench = List ℕ → ℕ → Outcome
+abbrev pub FrontHandedBack : Type 0
+FrontHandedBack = (file buffer : List ℕ) (written : ℕ) (buffer′ report table : List ℕ) → Ran file buffer written buffer′ report table
+    → HandsBack file (length buffer) (take written buffer′) report table
 
-abbrev pub Judge : Type 0
-Judge = List ℕ → Verdict
+-- what is given for a file and a buffer: the log, the report (number, entries, steps, gone-round takes) and the table
+pub record Given : Type 0 where
+  pub log : List ℕ
+  pub report : List ℕ
+  pub table : List ℕ
 
-abbrev pub KeepsBench : Bench → Type 0
-KeepsBench bench = (file : List ℕ) (room : ℕ) → bench file room ≡ runOf file room
+pub record Bench : Type 0 where
+  pub gives : List ℕ → List ℕ → Given
+  pub keeps : (file buffer : List ℕ) → Bytes file → Bytes buffer
+      → HandsBack file (length buffer) (gives file buffer .log) (gives file buffer .report) (gives file buffer .table)
 
-abbrev pub KeepsJudge : Judge → Type 0
-KeepsJudge judge = (log : List ℕ) → judge log ≡ judgeOf log
+pub record Judge : Type 0 where
+  pub says : List ℕ → Verdict
+  pub keeps : (log : List ℕ) → Bytes log → says log ≡ judgeOf log
 
--- what is given for a worked run
-abbrev given : Case → Outcome
-given k = runOf (k .file) (room k)
+-- something that is so of all that a bench gives
+abbrev pub Always : Bench → (Given → Type 0) → Type 0
+Always b Holds = (file buffer : List ℕ) → Bytes file → Bytes buffer → Holds (b .gives file buffer)
 
-module _ (bench : Bench) (keeps : KeepsBench bench) where
-  is : (k : Case) → bench (k .file) (room k) ≡ given k
-  is k = keeps (k .file) (room k)
+-- a bench that refuses all files
+abbrev pub RefusesAll : Type 0
+RefusesAll = (b : Bench) → Always b (λ g. getD (g .report) 0 0 ≡ 0 → ⊥) → ⊥
 
-  -- a bench that refuses all files (K1)
-  pub refuses-all : ((file : List ℕ) (room : ℕ) → bench file room .number ≡ 0 → ⊥) → ⊥
-  unfolding runOf
-  refuses-all h = h (K1 .file) (room K1) (ap (λ (o : Outcome). o .number) (is K1))
+-- one with the same log for every file
+abbrev pub SameLog : Type 0
+SameLog = (b : Bench) (log : List ℕ) → Always b (λ g. g .log ≡ log) → ⊥
 
-  -- one with the same log for every file (K1 and K8)
-  pub same-log : ((file file′ : List ℕ) (room room′ : ℕ) → bench file room .log ≡ bench file′ room′ .log) → ⊥
-  unfolding runOf logBytes
-  same-log h =
-      let e : _≡_ {A = ℕ} 41 5 =
-      sym (ap (λ (o : Outcome). length (o .log)) (is K1)) ∙ ap length (h (K1 .file) (K8 .file) (room K1) (room K8)) ∙ ap (λ (o : Outcome). length (o .log)) (is K8) in
-      omega arith
+-- one that moves nothing
+abbrev pub MovesNothing : Type 0
+MovesNothing = (b : Bench) → Always b (λ g. g .table ≡ replicate tableSize 0) → ⊥
 
-  -- one that moves nothing: bottom of queue 0 is 2 after K3
-  pub moves-nothing : ((file : List ℕ) (room : ℕ) → bench file room .table ≡ replicate tableSize 0) → ⊥
-  unfolding runOf
-  moves-nothing h =
-      let e : _≡_ {A = ℕ} 2 0 = sym (ap (λ (o : Outcome). getD (o .table) 0 0) (is K3)) ∙ ap (λ (l : List ℕ). getD l 0 0) (h (K3 .file) (room K3)) in
-      omega arith
+-- one that does every call in its first step and idles through the others: no call would end after its start,
+abbrev pub AllAtOnce : Type 0
+AllAtOnce = (b : Bench) → Always b (λ g. (i : ℕ) → entryAt (g .log) i .end ≡ entryAt (g .log) i .start) → ⊥
 
-  -- one that does every call in its first step and idles through the others: the first push of K1, and of K3, ends at step 2
-  abbrev FirstStep : Case → Type 0
-  FirstStep k = entryAt (bench (k .file) (room k) .log) 0 .start ≡ entryAt (bench (k .file) (room k) .log) 0 .end
+-- the log of a worked run, whose buffer was all 0
+abbrev pub logOf : Bench → Case → List ℕ
+logOf b k = b .gives (k .file) (replicate (room k) 0) .log
 
-  pub all-at-once : FirstStep K1 → ⊥
-  unfolding runOf logBytes entryAt
-  all-at-once h =
-      let e : _≡_ {A = ℕ} 0 2 = sym (ap (λ (o : Outcome). entryAt (o .log) 0 .start) (is K1)) ∙ h ∙ ap (λ (o : Outcome). entryAt (o .log) 0 .end) (is K1) in
-      omega arith
+-- and if it gives the ends of such calls honestly, process 1, whose take of K3 begins first, would get 5
+abbrev pub FirstStepTakes : Type 0
+FirstStepTakes = (b : Bench) → ((i : ℕ) → entryAt (logOf b K3) i .process ≡ 1 → entryAt (logOf b K3) i .node ≡ 5) → ⊥
 
-  pub all-at-once-in-K3 : FirstStep K3 → ⊥
-  unfolding runOf logBytes entryAt
-  all-at-once-in-K3 h =
-      let e : _≡_ {A = ℕ} 0 2 = sym (ap (λ (o : Outcome). entryAt (o .log) 0 .start) (is K3)) ∙ h ∙ ap (λ (o : Outcome). entryAt (o .log) 0 .end) (is K3) in
-      omega arith
+-- made-up counts: the gone-round takes cannot be told from the numbers of entries and steps
+abbrev pub MadeUpCounts : Type 0
+MadeUpCounts = (b : Bench) (gone : ℕ → ℕ → ℕ) → Always b (λ g. getD (g .report) 3 0 ≡ gone (getD (g .report) 1 0) (getD (g .report) 2 0)) → ⊥
 
-  -- made-up counts: gone-round takes that are always the same number (K4 has one, K1 none)
-  pub made-up-counts : (n : ℕ) → ((file : List ℕ) (room : ℕ) → bench file room .gone ≡ n) → ⊥
-  unfolding runOf
-  made-up-counts n h =
-      let one : 1 ≡ n = sym (ap (λ (o : Outcome). o .gone) (is K4)) ∙ h (K4 .file) (room K4) in
-      let none : 0 ≡ n = sym (ap (λ (o : Outcome). o .gone) (is K1)) ∙ h (K1 .file) (room K1) in
-      omega arith
+-- a judge that always accepts, and one that never does
+abbrev pub AlwaysAccepts : Type 0
+AlwaysAccepts = (j : Judge) → ((log : List ℕ) → Bytes log → j .says log .number ≡ 0) → ⊥
 
-module _ (judge : Judge) (keeps : KeepsJudge judge) where
-  -- a judge that always accepts (K4)
-  pub always-accepts : ((log : List ℕ) → judge log .number ≡ 0) → ⊥
-  unfolding runOf logBytes entryAt before
-  always-accepts h =
-      let e : _≡_ {A = ℕ} 17 0 = sym (ap (λ (v : Verdict). v .number) (keeps (given K4 .log))) ∙ h (given K4 .log) in
-      omega arith
-
-  -- a judge that never does (K1)
-  pub never-accepts : ((log : List ℕ) → judge log .number ≡ 0 → ⊥) → ⊥
-  unfolding runOf logBytes entryAt before
-  never-accepts h = h (given K1 .log) (ap (λ (v : Verdict). v .number) (keeps (given K1 .log)))
+abbrev pub NeverAccepts : Type 0
+NeverAccepts = (j : Judge) → ((log : List ℕ) → Bytes log → j .says log .number ≡ 0 → ⊥) → ⊥

@@ -8,10 +8,10 @@ use Rattle.word.specs.Stages.{rowNumber}
 use Rattle.word.specs.declared.Stage.the-variants.{T4}
 use Rattle.runfile.specs.Encode.{InRanges}
 use Rattle.runfile.specs.File.{RunFile, good, fileOf}
-use Rattle.bench.specs.Moment.{queueOf}
-use Rattle.bench.specs.Run.{closed, runOf}
-use Rattle.bench.specs.State.{State, queueAt, processAt}
-use Rattle.bench.specs.States.{StateOf}
+use Rattle.runs.specs.Moment.{queueOf}
+use Rattle.runs.specs.Run.{closed, runOf}
+use Rattle.runs.specs.State.{State, queueAt, processAt}
+use Rattle.runs.specs.States.{StateOf}
 
 -- in every state of a run the tag is the number of resets mod 2^W
 abbrev pub TagIsResets : Type 0
@@ -21,7 +21,7 @@ TagIsResets = (f : RunFile) → InRanges f → (s : State) → StateOf f s → (
 -- whoever stands at T4 has seen its queue reset fewer than 2^W times since its T1.
 abbrev pub FewResets : RunFile → State → Type 0
 FewResets f s = (p : ℕ) → p < length (f .shares) → rowNumber (processAt (s .bench) p .stage) ≡ rowNumber (T4 0 0 0 0)
-    → queueAt (s .bench) (queueOf p (processAt (s .bench) p .call)) .resets < processAt (s .bench) p .seen + 2 ^ f .width
+    → queueAt (s .bench) (queueOf p (processAt (s .bench) p .call)) .resets < processAt (s .bench) p .resetsAtT1 + 2 ^ f .width
 
 -- where that is so in every state of the run, no take is gone-round
 abbrev pub NoneGoneRound : Type 0

@@ -1,10 +1,10 @@
 -- The worked runs K1 to K8, K10 and K14 of document 01, in one list: bytes in; number, entries, counts and verdict out.
-use Prim.Native.Nat.{ℕ, _+_, _*_}
+use Prim.Native.Nat.{ℕ}
 use mathlib.Core.Path.{_≡_, refl}
 use mathlib.Core.List.{List, [], _∷_, map}
 use lib.ListN.{length, getD}
-use Rattle.bench.specs.Run.{Outcome, runOf}
-use Rattle.bench.specs.Worked.{Case, K1, K2, K3, K4, K5, K6, K7, K8}
+use Rattle.runs.specs.Run.{Outcome, runOf}
+use Rattle.runs.specs.Worked.{Case, room, K1, K2, K3, K4, K5, K6, K7, K8}
 use Rattle.rules.specs.Contents.{before}
 use Rattle.rules.specs.Judge.{judgeOf}
 use Rattle.log.specs.Decode.{entryAt}
@@ -31,10 +31,6 @@ worked =
     -- K10: the empty file
     ∷ refused [] 1
     ∷ judged fullTooEarly 19 1 ∷ []
-
--- a buffer with room for all calls of the file, which all end in these runs
-abbrev pub room : Case → ℕ
-room k = 5 + 12 * length (k .entries)
 
 abbrev verdict : List ℕ → List ℕ
 verdict log = judgeOf log .number ∷ judgeOf log .entry ∷ []

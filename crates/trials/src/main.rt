@@ -32,7 +32,7 @@ fn fresh() -> Case {
         stands: LETTER,
         letter: 0,
         length: 0,
-        room: 3077,
+        room: log::LONGEST_LOG as u16,
         sign: b' ',
         value: 0,
     }

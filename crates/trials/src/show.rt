@@ -32,7 +32,7 @@ fn refused(n: u16) {
 }
 
 // The counts, the judge's number and entry, bottom, top, tag and first slot of queue 0, and the log's bytes.
-fn ran(log: &[u8], report: [u16; 4], table: [u16; 536]) {
+fn ran(log: &[u8], report: [u16; 4], table: [u16; bench::TABLE_SIZE]) {
     number(b" entries ", report[1]);
     number(b" steps ", report[2]);
     number(b" gone-round ", report[3]);
@@ -47,9 +47,9 @@ fn ran(log: &[u8], report: [u16; 4], table: [u16; 536]) {
 
 // Runs a file with so many bytes of buffer for its log.
 pub(crate) fn run(file: &[u8], room: u16) {
-    let mut buffer = [0u8; 3077];
+    let mut buffer = [0u8; log::LONGEST_LOG];
     let mut report = [0u16; 4];
-    let mut table = [0u16; 536];
+    let mut table = [0u16; bench::TABLE_SIZE];
     let n = io::count(room as isize, &buffer);
     let log = bench::run(file, &mut buffer[..n], &mut report, &mut table);
     if report[0] != 0 {

@@ -28,8 +28,8 @@ use types.SemTy.{Body}
 use sound.WpLaws.{FmC, fmOf, WpFn-mono}
 use denote.RattleType.{owns}
 use denote.Memory.{mem}
-use denote.Laws.{Is, shows, Makes, Lawful}
-use denote.Plain.{uint-makes, uint-vals, uint-tells}
+use denote.Laws.{Is, shows}
+use denote.Plain.{uint-vals, uint-tells}
 use denote.Builtin.{u8, u16}
 use denote.Ref.{RefT, MutRef, ptr-vals, mut-tells}
 use denote.Slice.{sliceVal, MutSlice, Room, finally, slice-vals, mut-slice-tells}
@@ -50,7 +50,6 @@ use denote.Signature.{plain}
 use Rattle.desk.specs.Desk.{AtDesk}
 use Rattle.word.specs.declared.Word.{Word}
 use Rattle.word.specs.declared.Stage.{Stage}
-use Rattle.desk.specs.declared.Answer.{Answer}
 use Rattle.desk.specs.declared.Desk.{Desk}
 use Rattle.word.proofs.Word as T
 use Rattle.word.proofs.Word.Laws as T′
@@ -68,6 +67,7 @@ use Rattle.desk.proofs.step.Key.{name as #step}
 use Rattle.desk.proofs.step as step
 use Rattle.desk.proofs.step.Statement as stated
 use Rattle.desk.proofs.step.Code as code
+use Rattle.desk.proofs.Values.{word-val, stage-val, answer-val, u8-makes, word-makes, stage-makes, answer-makes, word-lawful, stage-lawful, answer-lawful, desk-lawful}
 
 -- at exit the word's borrow is still owned, and the slice's has been given up
 abbrev stayed : Stays (step.ended .signature .params) (step.ended .kept)
@@ -83,16 +83,6 @@ stayed = (
 abbrev ByValue : {M : Type 1} (𝓤 : URA M) (H : Heap 𝓤) (A : Atoms 𝓤) (mem : Memory → SProp 𝓤) (run : Routine → Fun 𝓤) → Contract 𝓤
 ByValue 𝓤 H A mem run = tripleOf 𝓤 H A by-value.signature (by-value.spec 𝓤 H A mem run)
 
--- the machine values of a word, a stage and an answer
-abbrev word-val : Word → Val
-word-val = T′.lowered
-
-abbrev stage-val : Stage → Val
-stage-val = EL.val G.the-type G′.the-laws
-
-abbrev answer-val : Answer → Val
-answer-val = EL.val R.the-type R′.the-laws
-
 -- what whoever holds `step_by_value`'s result knows of its fields
 of-word : (r : Desk) (w : Val) → Is D.the-row r (w ∷ []) → Is T.the-row (r .word) (word-val (r .word) ∷ [])
 of-word r w is =
@@ -101,32 +91,6 @@ of-word r w is =
 of-answer : (r : Desk) (w : Val) → Is D.the-row r (w ∷ []) → Is R.the-row (r .answer) (answer-val (r .answer) ∷ [])
 of-answer r w is =
     EL.owes R.the-type R′.the-laws (r .answer) (EL.owed R.the-type R′.the-laws (r .answer) _ (LL.owed D.the-type D′.the-laws r _ is .1 .0))
-
-module _ {M : Type 1} (𝓤 : URA M) (H : Heap 𝓤) (A : Atoms 𝓤) (W : Given 𝓤 H A) where
-  -- what each type owns is had for nothing, and a machine value of it has its MIR type
-  u8-makes : Makes 𝓤 H A u8 (Is u8)
-  u8-makes = uint-makes 𝓤 H A W w8
-
-  word-makes : Makes 𝓤 H A T.the-row (Is T.the-row)
-  word-makes = LL.makes T.the-type T′.the-plain 𝓤 H A
-
-  stage-makes : Makes 𝓤 H A G.the-row (Is G.the-row)
-  stage-makes = EL.makes G.the-type G′.the-plain 𝓤 H A
-
-  answer-makes : Makes 𝓤 H A R.the-row (Is R.the-row)
-  answer-makes = EL.makes R.the-type R′.the-plain 𝓤 H A
-
-  word-lawful : Lawful 𝓤 H A T.the-row
-  word-lawful = LL.lawful T.the-type T′.the-laws 𝓤 H A W
-
-  stage-lawful : Lawful 𝓤 H A G.the-row
-  stage-lawful = EL.lawful G.the-type G′.the-laws 𝓤 H A W tt
-
-  answer-lawful : Lawful 𝓤 H A R.the-row
-  answer-lawful = EL.lawful R.the-type R′.the-laws 𝓤 H A W tt
-
-  desk-lawful : Lawful 𝓤 H A D.the-row
-  desk-lawful = LL.lawful D.the-type D′.the-laws 𝓤 H A W
 
 module _ {M : Type 1} (𝓤 : URA M) (H : Heap 𝓤) (A : Atoms 𝓤) (W : Given 𝓤 H A) (at-mem : Memory → SProp 𝓤) (run : Routine → Fun 𝓤)
     (κ κ′ : Lft) (bounds : AllOutlive 2 (step.signature .outlives) (κ, (κ′, tt))) (q q′ : Share)

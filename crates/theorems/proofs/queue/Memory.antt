@@ -11,13 +11,12 @@ use Rattle.word.specs.declared.Stage.the-variants.{Idle, P1, P2, P3, T1, T2, T3
 use Rattle.queue.specs.declared.Stepped.{Stepped}
 use Rattle.word.specs.declared.Word.{Word}
 use Rattle.log.specs.declared.Entry.{Entry}
-use Rattle.bench.specs.State.{State, queueAt}
-use Rattle.bench.specs.Turn.{entriesIn}
-use Rattle.bench.specs.declared.Ended.{Ended}
-use Rattle.bench.specs.declared.Ended.the-variants.{Nothing, Call as ends}
+use Rattle.runs.specs.Moment.{Ended, Nothing, ends}
+use Rattle.runs.specs.State.{State, queueAt}
+use Rattle.runs.specs.Turn.{entriesIn}
 use Rattle.base.proofs.Cases.{never}
-use Rattle.bench.proofs.KindLaws.{isOwn}
-use Rattle.bench.proofs.Sound.{slotsAt}
+use Rattle.runs.proofs.KindLaws.{isOwn}
+use Rattle.runs.proofs.Sound.{slotsAt}
 
 pub record Memory : Type 0 where
   pub word : Word

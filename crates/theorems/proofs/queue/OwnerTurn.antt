@@ -25,11 +25,11 @@ use Rattle.queue.specs.declared.Stepped.{Stepped}
 use Rattle.base.proofs.Cases.{if-eq, if-lt, never}
 use Rattle.runfile.specs.declared.Call.{Call}
 use Rattle.runfile.specs.declared.Call.the-variants.{Push}
-use Rattle.bench.specs.Moment.{queueOf, pushedNode, isTake, entry, ended}
-use Rattle.bench.specs.declared.Process.{Process}
+use Rattle.runs.specs.State.{Process}
+use Rattle.runs.specs.Moment.{queueOf, pushedNode, isTake, entry, ended}
 use Rattle.rules.specs.Contents.{bears, dropLast, applied}
 use Rattle.theorems.proofs.queue.Cases.{if-age}
-use Rattle.bench.proofs.KindLaws.{isOwn, isPush}
+use Rattle.runs.proofs.KindLaws.{isOwn, isPush}
 use Rattle.base.proofs.Lists.{all-snoc}
 use Rattle.theorems.proofs.queue.Lists.{drop-last, slice-none, slice-snoc, one-node}
 use Rattle.theorems.proofs.queue.Content.{Free, event-free, isAt, content, still-from, add-none, add-past, add-at, swap, pend-past, pend-at}
@@ -105,7 +105,7 @@ module _ (W C n p : ℕ) (call : Call) (place stop f k seen : ℕ) (owner : Proc
   q = queueOf p call
 
   abbrev at : Stage → Process
-  at z = record { stage = z; call = call; next = place; stop = stop; start = f; back = k; seen = seen }
+  at z = record { stage = z; call = call; next = place; stop = stop; start = f; b2 = k; resetsAtT1 = seen }
 
   abbrev P : Stage → Stepped → Type 0
   P z u = Turn C n p q f call nd l m z k (logAfter l (ended p n (at z) owner top (u .next))) (memoryAfter m u) (stageAfter (u .next)) (cond (atB2 z) n k)

@@ -20,12 +20,12 @@ use Rattle.word.specs.declared.Stage.{Stage}
 use Rattle.word.specs.declared.Stage.the-variants.{Idle, P1, P2, P3, T1, T2, T3, T4, B1, B2, B3, B4, B5, B6, B7}
 use Rattle.queue.specs.declared.Stepped.{Stepped}
 use Rattle.runfile.specs.declared.Call.{Call}
-use Rattle.bench.specs.Moment.{queueOf, isTake, entry, takeMoment, ended, goneRound}
-use Rattle.bench.specs.declared.Process.{Process}
+use Rattle.runs.specs.State.{Process}
+use Rattle.runs.specs.Moment.{queueOf, isTake, entry, takeMoment, ended, goneRound}
 use Rattle.rules.specs.Contents.{dropFirst}
 use Rattle.base.proofs.Cases.{never, ever, if-le}
 use Rattle.theorems.proofs.queue.Cases.{if-age}
-use Rattle.bench.proofs.KindLaws.{isTop}
+use Rattle.runs.proofs.KindLaws.{isTop}
 use Rattle.base.proofs.Lists.{in-last, in-snoc}
 use Rattle.theorems.proofs.queue.Lists.{slice-none}
 use Rattle.theorems.proofs.queue.Content.{isAt, turn, content, content-suc, add-none, add-past, swap}
@@ -138,7 +138,7 @@ module _ (W C n p : ℕ) (call : Call) (place stop f back seen : ℕ) (owner : P
   q = queueOf p call
 
   abbrev at : Stage → Process
-  at z = record { stage = z; call = call; next = place; stop = stop; start = f; back = back; seen = seen }
+  at z = record { stage = z; call = call; next = place; stop = stop; start = f; b2 = back; resetsAtT1 = seen }
 
   bd : Bounds C m s
   bd = bounds C nd′ m s (h .ctl)

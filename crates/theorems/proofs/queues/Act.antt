@@ -21,14 +21,13 @@ use Rattle.word.specs.declared.Stage.the-variants.{Idle, P1, P2, P3, T1, T2, T3
 use Rattle.queue.specs.declared.Stepped.{Stepped}
 use Rattle.runfile.specs.declared.Call.{Call}
 use Rattle.runfile.specs.declared.Call.the-variants.{Push, Pop, Take}
-use Rattle.bench.specs.Moment.{queueOf, pushedNode, isTake, entry, nilMoment, takeMoment, goneRound}
-use Rattle.bench.specs.State.{State, queueAt, processAt}
-use Rattle.bench.specs.Turn.{firstStage, begun, processAfter, ending, acted}
-use Rattle.bench.specs.declared.Process.{Process}
+use Rattle.runs.specs.Moment.{queueOf, pushedNode, isTake, entry, nilMoment, takeMoment, goneRound}
+use Rattle.runs.specs.State.{Process, State, queueAt, processAt}
+use Rattle.runs.specs.Turn.{firstStage, begun, processAfter, ending, acted}
 use Rattle.base.proofs.Bools.{and-1, not-so, or-l}
 use Rattle.base.proofs.Cases.{never, ever}
-use Rattle.bench.proofs.KindLaws.{isPush, isTop, isOwn, Within, within, first-quiet, own-queue, whose, Gives, gives}
-use Rattle.bench.proofs.Sound.{Sizes, Fit, processes, slotsAt, Sound, Was, goes, begins, Steps, rowAt}
+use Rattle.runs.proofs.KindLaws.{isPush, isTop, isOwn, Within, within, first-quiet, own-queue, whose, Gives, gives}
+use Rattle.runs.proofs.Sound.{Sizes, Fit, processes, slotsAt, Sound, Was, goes, begins, Steps, rowAt}
 use Rattle.base.specs.Lists.{All}
 use Rattle.base.proofs.Lists.{all-snoc, all-map}
 use Rattle.theorems.proofs.queue.Memory.{Memory, memoryAt, memoryAfter, asOwner, as-popped, lim, logAfter}
@@ -131,7 +130,7 @@ back-of z y n k w e = by (decLt 9 (rowNumber z))
   where
     by : Dec (9 < rowNumber z) → (cond (atB2 z) n k ≡ n) ⊎ ((pastB2 z ≡ true) × (cond (atB2 z) n k ≡ k))
     by (yes lt) = inr (lt-ltb 9 (rowNumber z) lt, ap (λ (b : Bool). cond b n k) (ne-eqb (rowNumber z) 9 (omega arith)))
-    by (no ge) = inl (ap (λ (b : Bool). cond b n k) (eq-eqb (rowNumber z) 9 (omega (arith, leb-true 9 (rowNumber z) (w .back e)))))
+    by (no ge) = inl (ap (λ (b : Bool). cond b n k) (eq-eqb (rowNumber z) 9 (omega (arith, leb-true 9 (rowNumber z) (w .b2 e)))))
 
 module _ (f : Sizes) (w : Fit f) (s : State) (v : Sound f s) (h : Inv f s) (p : ℕ) (r : Process) (k : Steps f s p r) where
   abbrev q : ℕ
@@ -168,11 +167,11 @@ module _ (f : Sizes) (w : Fit f) (s : State) (v : Sound f s) (h : Inv f s) (p : 
   timed = was-timed r (k .was)
 
   timed-after : Timed (n + 1) p l′ r′
-  timed-after = record { begun = omega (arith, timed .begun); back-after = λ e. later e (back-of (r .stage) z′ n (r .back) inside e); since = λ e. kept (o .next) e }
+  timed-after = record { begun = omega (arith, timed .begun); back-after = λ e. later e (back-of (r .stage) z′ n (r .b2) inside e); since = λ e. kept (o .next) e }
     where
       later : pastB2 (stageAfter (rowAt f s p r .next)) ≡ true
-          → (cond (atB2 (r .stage)) (s .bench .steps) (r .back) ≡ s .bench .steps) ⊎ ((pastB2 (r .stage) ≡ true) × (cond (atB2 (r .stage)) (s .bench .steps) (r .back) ≡ r .back))
-          → r .start ≤ cond (atB2 (r .stage)) (s .bench .steps) (r .back)
+          → (cond (atB2 (r .stage)) (s .bench .steps) (r .b2) ≡ s .bench .steps) ⊎ ((pastB2 (r .stage) ≡ true) × (cond (atB2 (r .stage)) (s .bench .steps) (r .b2) ≡ r .b2))
+          → r .start ≤ cond (atB2 (r .stage)) (s .bench .steps) (r .b2)
       later e (inl d) = omega (arith, d, timed .begun)
       later e (inr d) = omega (arith, d .1, timed .back-after (d .0))
 
@@ -192,9 +191,9 @@ module _ (f : Sizes) (w : Fit f) (s : State) (v : Sound f s) (h : Inv f s) (p : 
   wrote d x t g = record { process = k .below; queue = k .placed .queue; did = d; kind = refl; result = refl; fields = g }
 
   node-written : (owner : Process) (t x : ℕ) (b : Bool) → isTake (r .call) ≡ b
-      → Written (processes f) (cond b (entry p n r TopNode x (takeMoment n owner t)) (entry p n r BottomNode x (2 * r .back)))
+      → Written (processes f) (cond b (entry p n r TopNode x (takeMoment n owner t)) (entry p n r BottomNode x (2 * r .b2)))
   node-written owner t x true e = wrote TopNode x (takeMoment n owner t) tt
-  node-written owner t x false e = wrote BottomNode x (2 * r .back) (own-queue p (r .call) e)
+  node-written owner t x false e = wrote BottomNode x (2 * r .b2) (own-queue p (r .call) e)
 
   nil-written : (b : Bool) → isTake (r .call) ≡ b → Written (processes f) (cond b (entry p n r TopNil 0 noMoment) (entry p n r BottomNil 0 (nilMoment n r)))
   nil-written true e = wrote TopNil 0 noMoment (refl, refl)
@@ -214,10 +213,10 @@ module _ (f : Sizes) (w : Fit f) (s : State) (v : Sound f s) (h : Inv f s) (p : 
 
   -- THE OWNER
   abbrev pub mine : Process → Seat
-  mine r = record { stage = r .stage; back = r .back; node = pushedNode (r .call) }
+  mine r = record { stage = r .stage; b2 = r .b2; node = pushedNode (r .call) }
 
   own-seat : (r : Process) → isOwn (r .stage) ≡ true → seatOf r ≡ mine r
-  own-seat r i = λ j. record { stage = cond (i j) (r .stage) Idle; back = r .back; node = cond (i j) (pushedNode (r .call)) 0 }
+  own-seat r i = λ j. record { stage = cond (i j) (r .stage) Idle; b2 = r .b2; node = cond (i j) (pushedNode (r .call)) 0 }
 
   module _ (i : isOwn (r .stage) ≡ true) where
     no-take : isTake (r .call) ≡ false
@@ -233,11 +232,11 @@ module _ (f : Sizes) (w : Fit f) (s : State) (v : Sound f s) (h : Inv f s) (p : 
     own-ok r goes i = subst (λ (σ : Seat). SeatOk (f .size) n p (s .log) (memoryAt s p) σ) (own-seat r i) (h .queues p (k .below))
     own-ok r (begins call z) i = first call i
       where
-        idle-ok : QueueOk (f .size) (s .bench .steps) 0 (s .log) (memoryAt s p) Idle (processAt (s .bench) p .back)
-            (view p (s .log) (memoryAt s p) Idle (processAt (s .bench) p .back))
+        idle-ok : QueueOk (f .size) (s .bench .steps) 0 (s .log) (memoryAt s p) Idle (processAt (s .bench) p .b2)
+            (view p (s .log) (memoryAt s p) Idle (processAt (s .bench) p .b2))
         idle-ok = subst (λ (x : Stage). QueueOk (f .size) (s .bench .steps) (cond (isOwn x) (pushedNode (processAt (s .bench) p .call)) 0) (s .log) (memoryAt s p)
-            (asOwner x) (processAt (s .bench) p .back)
-            (view p (s .log) (memoryAt s p) (asOwner x) (processAt (s .bench) p .back))) z (h .queues p (k .below))
+            (asOwner x) (processAt (s .bench) p .b2)
+            (view p (s .log) (memoryAt s p) (asOwner x) (processAt (s .bench) p .b2))) z (h .queues p (k .below))
 
         first : (call : Call) → isOwn (firstStage call) ≡ true
             → SeatOk (f .size) (s .bench .steps) p (s .log) (memoryAt s p) (mine (begun (s .bench .steps) call (processAt (s .bench) p)))
@@ -253,24 +252,24 @@ module _ (f : Sizes) (w : Fit f) (s : State) (v : Sound f s) (h : Inv f s) (p : 
     -- before the step the queue saw its owner so, or idle where the call begins
     turn-was : (r : Process) → Was f s p r → isOwn (r .stage) ≡ true → (q : ℕ) → q ≡ p
         → (a : ℕ) (call : Call) (nd : ℕ) (l′ : List Entry) (m′ : Memory) (s′ : Stage) (k′ : ℕ)
-        → Turn (f .size) n p q a call nd (s .log) (memoryAt s q) (r .stage) (r .back) l′ m′ s′ k′
-        → Turn (f .size) n p q a call nd (s .log) (memoryAt s q) (seat s q .stage) (seat s q .back) l′ m′ s′ k′
+        → Turn (f .size) n p q a call nd (s .log) (memoryAt s q) (r .stage) (r .b2) l′ m′ s′ k′
+        → Turn (f .size) n p q a call nd (s .log) (memoryAt s q) (seat s q .stage) (seat s q .b2) l′ m′ s′ k′
     turn-was r goes i q e a call nd l′ m′ s′ k′ t =
-        subst (λ (σ : Seat). Turn (f .size) n p q a call nd (s .log) (memoryAt s q) (σ .stage) (σ .back) l′ m′ s′ k′)
+        subst (λ (σ : Seat). Turn (f .size) n p q a call nd (s .log) (memoryAt s q) (σ .stage) (σ .b2) l′ m′ s′ k′)
         (sym (ap (λ (j : ℕ). seat s j) e ∙ own-seat r i)) t
     turn-was r (begins c z) i q e a call nd l′ m′ s′ k′ t =
-        subst (λ (x : Stage). Turn (f .size) n p q a call nd (s .log) (memoryAt s q) x (seat s q .back) l′ m′ s′ k′)
+        subst (λ (x : Stage). Turn (f .size) n p q a call nd (s .log) (memoryAt s q) x (seat s q .b2) l′ m′ s′ k′)
         (sym (ap (λ (j : ℕ). seat s j .stage) e ∙ ap asOwner z))
-        (subst (λ (x : ℕ). Turn (f .size) n p q a call nd (s .log) (memoryAt s q) Idle x l′ m′ s′ k′) (sym (ap (λ (j : ℕ). seat s j .back) e))
-        (restart (f .size) n p q a call nd (s .log) (memoryAt s q) (firstStage c) (processAt (s .bench) p .back) l′ m′ s′ k′ (first-quiet c)
+        (subst (λ (x : ℕ). Turn (f .size) n p q a call nd (s .log) (memoryAt s q) Idle x l′ m′ s′ k′) (sym (ap (λ (j : ℕ). seat s j .b2) e))
+        (restart (f .size) n p q a call nd (s .log) (memoryAt s q) (firstStage c) (processAt (s .bench) p .b2) l′ m′ s′ k′ (first-quiet c)
         (first-lim c (memoryAt s q .word .bottom)) t))
 
-    back-was : (r : Process) → Was f s p r → isOwn (r .stage) ≡ true → (q : ℕ) → q ≡ p → (x : ℕ) → (x ≡ n) ⊎ ((pastB2 (r .stage) ≡ true) × (x ≡ r .back))
-        → (x ≡ n) ⊎ ((pastB2 (seat s q .stage) ≡ true) × (x ≡ seat s q .back))
+    back-was : (r : Process) → Was f s p r → isOwn (r .stage) ≡ true → (q : ℕ) → q ≡ p → (x : ℕ) → (x ≡ n) ⊎ ((pastB2 (r .stage) ≡ true) × (x ≡ r .b2))
+        → (x ≡ n) ⊎ ((pastB2 (seat s q .stage) ≡ true) × (x ≡ seat s q .b2))
     back-was r a i q e x (inl d) = inl d
     back-was r goes i q e x (inr d) =
         let u : seat s q ≡ mine r = ap (λ (j : ℕ). seat s j) e ∙ own-seat r i in
-        inr (ap (λ (σ : Seat). pastB2 (σ .stage)) u ∙ d .0, d .1 ∙ sym (ap (λ (σ : Seat). σ .back) u))
+        inr (ap (λ (σ : Seat). pastB2 (σ .stage)) u ∙ d .0, d .1 ∙ sym (ap (λ (σ : Seat). σ .b2) u))
     back-was r (begins c z) i q e x (inr d) = never (sym (first-quiet c) ∙ d .0)
 
     pub no-top : isTop z′ ≡ false
@@ -281,18 +280,18 @@ module _ (f : Sizes) (w : Fit f) (s : State) (v : Sound f s) (h : Inv f s) (p : 
         let nd : ℕ = pushedNode (r .call) in
         let seen : asOwner z′ ≡ z′ = as-own z′ no-top in
         let ok = subst (λ (j : ℕ). SeatOk (f .size) n j (s .log) (memoryAt s j) (mine r)) (sym here) (own-ok r (k .was) i) in
-        let t₁ = owner-turn (f .width) (f .size) n p (r .call) (r .next) (r .stop) (r .start) (r .back) (r .seen) (processAt (s .bench) q) (m .word .top) no-take
+        let t₁ = owner-turn (f .width) (f .size) n p (r .call) (r .next) (r .stop) (r .start) (r .b2) (r .resetsAtT1) (processAt (s .bench) q) (m .word .top) no-take
         (s .log) m (old-log f s h) (timed .begun)
         (r .stage) i (k .placed .suits .push) (timed .back-after) ok in
-        let t₂ = turn-was r (k .was) i q here (r .start) (r .call) nd l′ (memoryAfter m o) z′ (r′ .back) t₁ in
-        let t₃ = renode (f .size) n p q (r .start) (r .call) nd (s .log) m (seat s q .stage) (seat s q .back) l′ (memoryAfter m o) z′ (r′ .back) seen t₂ in
-        let t₄ = subst (λ (x : Stage). Turn (f .size) n p q (r .start) (r .call) (cond (isOwn z′) nd 0) (s .log) m (seat s q .stage) (seat s q .back) l′
-        (memoryAfter m o) x (r′ .back)) (sym seen) t₃ in
+        let t₂ = turn-was r (k .was) i q here (r .start) (r .call) nd l′ (memoryAfter m o) z′ (r′ .b2) t₁ in
+        let t₃ = renode (f .size) n p q (r .start) (r .call) nd (s .log) m (seat s q .stage) (seat s q .b2) l′ (memoryAfter m o) z′ (r′ .b2) seen t₂ in
+        let t₄ = subst (λ (x : Stage). Turn (f .size) n p q (r .start) (r .call) (cond (isOwn z′) nd 0) (s .log) m (seat s q .stage) (seat s q .b2) l′
+        (memoryAfter m o) x (r′ .b2)) (sym seen) t₃ in
         assemble f w s v h p r k (seatOf r′)
         (at-record f w s v h p r k (λ (a : Process). seatOf a ≡ seatOf r′) q (λ e. refl) (λ e. absurd (e here)))
         (λ j ne. at-record f w s v h p r k (λ (a : Process). seatOf a ≡ seat s j) j (λ e. absurd (ne (e ∙ sym here))) (λ e. refl))
         t₄
-        (λ e. back-was r (k .was) i q here (r′ .back) (back-of (r .stage) z′ n (r .back) inside (ap pastB2 (sym seen) ∙ e)))
+        (λ e. back-was r (k .was) i q here (r′ .b2) (back-of (r .stage) z′ n (r .b2) inside (ap pastB2 (sym seen) ∙ e)))
         (at-owner _ _ _ _ _ _ _ _ _ _ _ z′ no-top)
         timed-after
         (timed .since (k .busy))
@@ -316,26 +315,26 @@ module _ (f : Sizes) (w : Fit f) (s : State) (v : Sound f s) (h : Inv f s) (p : 
         first (Take q) = tt
 
     -- its own queue sees it idle, before and after
-    hidden : (z : Stage) (b nd : ℕ) → isOwn z ≡ false → _≡_ {A = Seat} (record { stage = asOwner z; back = b; node = cond (isOwn z) nd 0 })
-        (record { stage = Idle; back = b; node = 0 })
-    hidden z b nd e = λ j. record { stage = cond (e j) z Idle; back = b; node = cond (e j) nd 0 }
+    hidden : (z : Stage) (b nd : ℕ) → isOwn z ≡ false → _≡_ {A = Seat} (record { stage = asOwner z; b2 = b; node = cond (isOwn z) nd 0 })
+        (record { stage = Idle; b2 = b; node = 0 })
+    hidden z b nd e = λ j. record { stage = cond (e j) z Idle; b2 = b; node = cond (e j) nd 0 }
 
-    seat-was : (r : Process) → Was f s p r → isOwn (r .stage) ≡ false → seat s p ≡ record { stage = Idle; back = r .back; node = 0 }
-    seat-was r goes e = hidden (r .stage) (r .back) (pushedNode (r .call)) e
-    seat-was r (begins call z) e = hidden (processAt (s .bench) p .stage) (processAt (s .bench) p .back) (pushedNode (processAt (s .bench) p .call)) (ap isOwn z)
+    seat-was : (r : Process) → Was f s p r → isOwn (r .stage) ≡ false → seat s p ≡ record { stage = Idle; b2 = r .b2; node = 0 }
+    seat-was r goes e = hidden (r .stage) (r .b2) (pushedNode (r .call)) e
+    seat-was r (begins call z) e = hidden (processAt (s .bench) p .stage) (processAt (s .bench) p .b2) (pushedNode (processAt (s .bench) p .call)) (ap isOwn z)
 
     not-own : isOwn z′ ≡ false
     not-own = not-so (isOwn z′) (λ e. ever (sym (inside .own e) ∙ i))
 
-    back-same : r′ .back ≡ r .back
-    back-same = ap (λ (b : Bool). cond b n (r .back)) (not-B2 (r .stage) top)
+    back-same : r′ .b2 ≡ r .b2
+    back-same = ap (λ (b : Bool). cond b n (r .b2)) (not-B2 (r .stage) top)
       where
         not-B2 : (z : Stage) → isTop z ≡ true → atB2 z ≡ false
         not-B2 z e = ne-eqb (rowNumber z) 9 (λ d. let x = leb-true (rowNumber z) 7 (and-1 (leb 4 (rowNumber z)) (leb (rowNumber z) 7) e) in omega arith)
 
     pub seats : (j : ℕ) → seat (acted p r s o) j ≡ seat s j
     seats j = at-record f w s v h p r k (λ (a : Process). seatOf a ≡ seat s j) j
-        (λ e. hidden z′ (r′ .back) (pushedNode (r .call)) not-own ∙ ap (λ (b : ℕ). record { stage = Idle; back = b; node = 0 }) back-same ∙ sym
+        (λ e. hidden z′ (r′ .b2) (pushedNode (r .call)) not-own ∙ ap (λ (b : ℕ). record { stage = Idle; b2 = b; node = 0 }) back-same ∙ sym
         (seat-was r (k .was) i) ∙ ap (λ (x : ℕ). seat s x) (sym e))
         (λ e. refl)
 
@@ -343,10 +342,10 @@ module _ (f : Sizes) (w : Fit f) (s : State) (v : Sound f s) (h : Inv f s) (p : 
     thief-act gone =
         let σ : Seat = seat s q in
         let owner : Process = processAt (s .bench) q in
-        let credit : takeMoment n owner (m .word .top) ≡ cond (popsSlot (σ .stage) (m .word .top)) (2 * σ .back) (2 * n) =
-        ap (λ (b : Bool). cond b (2 * owner .back) (2 * n)) (sym (as-popped (owner .stage) (m .word .top))) in
-        let t₁ = thief-turn (f .width) (f .size) n p (r .call) (r .next) (r .stop) (r .start) (r .back) (r .seen) owner take (σ .node) (s .log) m (σ .stage)
-        (σ .back) credit (old-log f s h) (timed .begun)
+        let credit : takeMoment n owner (m .word .top) ≡ cond (popsSlot (σ .stage) (m .word .top)) (2 * σ .b2) (2 * n) =
+        ap (λ (b : Bool). cond b (2 * owner .b2) (2 * n)) (sym (as-popped (owner .stage) (m .word .top))) in
+        let t₁ = thief-turn (f .width) (f .size) n p (r .call) (r .next) (r .stop) (r .start) (r .b2) (r .resetsAtT1) owner take (σ .node) (s .log) m (σ .stage)
+        (σ .b2) credit (old-log f s h) (timed .begun)
         (h .queues q (k .placed .queue)) (r .stage) top (thief-ok r (k .was)) gone in
         assemble f w s v h p r k σ (seats q) (λ j ne. seats j) (t₁ .turn) (λ e. inr (e, refl)) (t₁ .self) timed-after (timed .since (k .busy)) written
 

@@ -11,13 +11,11 @@ use Rattle.word.specs.Stages.{pastB2}
 use Rattle.queue.specs.Step.{stored}
 use Rattle.queue.specs.declared.Next.the-variants as next
 use Rattle.queue.specs.declared.Stepped.{Stepped}
-use Rattle.bench.specs.Moment.{queueOf, ended}
-use Rattle.bench.specs.State.{State, fresh, nobody, queueAt, processAt}
-use Rattle.bench.specs.Turn.{processAfter, queueAfter, ending, acted}
-use Rattle.bench.specs.declared.Process.{Process}
-use Rattle.bench.specs.declared.Queue.{Queue}
+use Rattle.runs.specs.Moment.{queueOf, ended}
+use Rattle.runs.specs.State.{Process, Queue, State, fresh, nobody, queueAt, processAt}
+use Rattle.runs.specs.Turn.{processAfter, queueAfter, ending, acted}
 use Rattle.base.proofs.Cases.{if-set}
-use Rattle.bench.proofs.Sound.{Sizes, Fit, processes, slotsAt, Sound, Steps, rowAt}
+use Rattle.runs.proofs.Sound.{Sizes, Fit, processes, slotsAt, Sound, Steps, rowAt}
 use Rattle.base.specs.Lists.{All, Pairs}
 use Rattle.base.proofs.Lists.{In, all-snoc, all-map, all-in, in-all, pairs-snoc}
 use Rattle.theorems.proofs.queue.Memory.{Memory, memoryAt, memoryAfter, logAfter, log-after}
@@ -64,9 +62,9 @@ module _ (f : Sizes) (w : Fit f) (s : State) (v : Sound f s) (h : Inv f s) (p : 
   module _ (σ′ : Seat)
       (seat-q : seat t q ≡ σ′)
       (seat-else : (j : ℕ) → (j ≡ q → ⊥) → seat t j ≡ seat s j)
-      (turn : Turn (f .size) (s .bench .steps) p q (r .start) (r .call) (σ′ .node) (s .log) (memoryAt s q) (seat s q .stage) (seat s q .back) l′ m′ (σ′ .stage)
-      (σ′ .back))
-      (backs : pastB2 (σ′ .stage) ≡ true → (σ′ .back ≡ s .bench .steps) ⊎ ((pastB2 (seat s q .stage) ≡ true) × (σ′ .back ≡ seat s q .back)))
+      (turn : Turn (f .size) (s .bench .steps) p q (r .start) (r .call) (σ′ .node) (s .log) (memoryAt s q) (seat s q .stage) (seat s q .b2) l′ m′ (σ′ .stage)
+      (σ′ .b2))
+      (backs : pastB2 (σ′ .stage) ≡ true → (σ′ .b2 ≡ s .bench .steps) ⊎ ((pastB2 (seat s q .stage) ≡ true) × (σ′ .b2 ≡ seat s q .b2)))
       (self : ThiefOk (f .size) (s .bench .steps + 1) p l′ m′ σ′ r′)
       (timed : Timed (s .bench .steps + 1) p l′ r′)
       (since : All (λ (e : Entry). e .process ≡ p → e .end < r .start) (s .log))
@@ -83,7 +81,7 @@ module _ (f : Sizes) (w : Fit f) (s : State) (v : Sound f s) (h : Inv f s) (p : 
 
     -- another queue
     kept-else : (j : ℕ) → (j ≡ q → ⊥) → (x : ℕ) → nodesBy j l′ (memoryAt s j) (seat s j) x ≡ nodesBy j (s .log) (memoryAt s j) (seat s j) x
-    kept-else j e x = other-same (turn .grow) j e (pending (memoryAt s j) (seat s j .stage) (seat s j .back)) x
+    kept-else j e x = other-same (turn .grow) j e (pending (memoryAt s j) (seat s j .stage) (seat s j .b2)) x
 
     queue-else : (j : ℕ) → j < processes f → (j ≡ q → ⊥) → SeatOk (f .size) (s .bench .steps + 1) j l′ (memoryAt s j) (seat s j)
     queue-else j lt e =
@@ -93,18 +91,18 @@ module _ (f : Sizes) (w : Fit f) (s : State) (v : Sound f s) (h : Inv f s) (p : 
           ctl = o .ctl;
           now-on = λ x i. kp x ∙ o .now-on x (omega arith);
           held = λ d.
-              held-keep (s .bench .steps) (s .log) (memoryAt s j) (seat s j .stage) (seat s j .back) (nodesBy j (s .log) (memoryAt s j) (seat s j)) l′ (memoryAt s j)
+              held-keep (s .bench .steps) (s .log) (memoryAt s j) (seat s j .stage) (seat s j .b2) (nodesBy j (s .log) (memoryAt s j) (seat s j)) l′ (memoryAt s j)
               (seat s j .stage) (nodesBy j l′ (memoryAt s j) (seat s j))
               (λ x i. kp x) refl refl (λ a. a) (λ a. a)
-              (λ lt′ a. free-grow (turn .grow) (seat s j .back) (2 * seat s j .back) (omega arith) (omega arith) lt′
+              (λ lt′ a. free-grow (turn .grow) (seat s j .b2) (2 * seat s j .b2) (omega arith) (omega arith) lt′
               (λ ps eq. h .apart j q lt (k .placed .queue) e d ps eq) a)
-              (λ lt′ a. free-grow (turn .grow) (seat s j .back) (suc (2 * seat s j .back)) (omega arith) (omega arith) lt′
+              (λ lt′ a. free-grow (turn .grow) (seat s j .b2) (suc (2 * seat s j .b2)) (omega arith) (omega arith) lt′
               (λ ps eq. h .apart j q lt (k .placed .queue) e d ps eq) a)
               (o .held d);
         }
 
     rely-else : (j : ℕ) → j < processes f → (j ≡ q → ⊥)
-        → Rely (s .bench .steps) p j (s .log) (memoryAt s j) (seat s j .stage) (seat s j .back) (nodesBy j (s .log) (memoryAt s j) (seat s j)) l′ (memoryAt s j) (seat s j .stage) (seat s j .back) (nodesBy j l′ (memoryAt s j) (seat s j))
+        → Rely (s .bench .steps) p j (s .log) (memoryAt s j) (seat s j .stage) (seat s j .b2) (nodesBy j (s .log) (memoryAt s j) (seat s j)) l′ (memoryAt s j) (seat s j .stage) (seat s j .b2) (nodesBy j l′ (memoryAt s j) (seat s j))
     rely-else j lt e =
         record {
           calm = calm-refl (memoryAt s j) (seat s j .stage);
@@ -118,19 +116,19 @@ module _ (f : Sizes) (w : Fit f) (s : State) (v : Sound f s) (h : Inv f s) (p : 
         let on-lt = v .each j lt .queue in
         at-queue (λ m σ. ThiefOk (f .size) (s .bench .steps + 1) j l′ m σ (processAt (s .bench) j)) (queueOf j (processAt (s .bench) j .call))
         (λ d.
-        thief-keeps (f .size) (subst (λ (i : ℕ). Rely (s .bench .steps) p i (s .log) (memoryAt s i) (seat s i .stage) (seat s i .back)
-        (nodesBy i (s .log) (memoryAt s i) (seat s i)) l′ m′ (σ′ .stage) (σ′ .back) (nodesBy i l′ m′ σ′)) (sym d) (turn .rely)) (in-grow (turn .grow)) j
-        (processAt (s .bench) j .start) (processAt (s .bench) j .seen) (λ a. e (sym a)) (processAt (s .bench) j .stage) (h .thieves j lt))
+        thief-keeps (f .size) (subst (λ (i : ℕ). Rely (s .bench .steps) p i (s .log) (memoryAt s i) (seat s i .stage) (seat s i .b2)
+        (nodesBy i (s .log) (memoryAt s i) (seat s i)) l′ m′ (σ′ .stage) (σ′ .b2) (nodesBy i l′ m′ σ′)) (sym d) (turn .rely)) (in-grow (turn .grow)) j
+        (processAt (s .bench) j .start) (processAt (s .bench) j .resetsAtT1) (λ a. e (sym a)) (processAt (s .bench) j .stage) (h .thieves j lt))
         (λ d.
         thief-keeps (f .size) (rely-else (queueOf j (processAt (s .bench) j .call)) on-lt d) (in-grow (turn .grow)) j (processAt (s .bench) j .start)
-        (processAt (s .bench) j .seen) (λ a. e (sym a)) (processAt (s .bench) j .stage) (h .thieves j lt))
+        (processAt (s .bench) j .resetsAtT1) (λ a. e (sym a)) (processAt (s .bench) j .stage) (h .thieves j lt))
 
     timed-else : (j : ℕ) → j < processes f → (j ≡ p → ⊥) → Timed (s .bench .steps + 1) j l′ (processAt (s .bench) j)
     timed-else j lt e =
         let o = h .timed j lt in
         record { begun = omega (arith, o .begun); back-after = o .back-after; since = λ b. go l′ (turn .grow) (o .since b) }
       where
-        go : (l″ : List Entry) → Grow (s .bench .steps) p q (r .start) (r .call) (s .log) (seat s q .stage) (seat s q .back) (view q l′ m′ (σ′ .stage) (σ′ .back)) l″
+        go : (l″ : List Entry) → Grow (s .bench .steps) p q (r .start) (r .call) (s .log) (seat s q .stage) (seat s q .b2) (view q l′ m′ (σ′ .stage) (σ′ .b2)) l″
             → All (λ (d : Entry). d .process ≡ j → d .end < processAt (s .bench) j .start) (s .log)
             → All (λ (d : Entry). d .process ≡ j → d .end < processAt (s .bench) j .start) l″
         go l″ same a = a
@@ -150,7 +148,7 @@ module _ (f : Sizes) (w : Fit f) (s : State) (v : Sound f s) (h : Inv f s) (p : 
     old-fine = all-map _ _ (λ e g. fine-keeps (s .bench .steps) (s .log) _ l′ _ (in-grow (turn .grow)) (kept-all (e .queue)) e g) (s .log) (h .fine)
 
     -- the new entry against an old one
-    new-order : (e : Entry) → NewOk (s .bench .steps) p q (r .start) (r .call) (s .log) (seat s q .stage) (seat s q .back) (s .log ++ (e ∷ [])) (view q l′ m′ (σ′ .stage) (σ′ .back)) e
+    new-order : (e : Entry) → NewOk (s .bench .steps) p q (r .start) (r .call) (s .log) (seat s q .stage) (seat s q .b2) (s .log ++ (e ∷ [])) (view q l′ m′ (σ′ .stage) (σ′ .b2)) e
         → All (λ (a : Entry). Order a e) (s .log)
     new-order e x = all-in (λ (a : Entry). Order a e) (s .log) go
       where
@@ -167,7 +165,7 @@ module _ (f : Sizes) (w : Fit f) (s : State) (v : Sound f s) (h : Inv f s) (p : 
     abbrev Log : List Entry → Type 0
     Log k = (All FineT k) × (Pairs Order k)
 
-    new-log : (l″ : List Entry) → l″ ≡ l′ → Grow (s .bench .steps) p q (r .start) (r .call) (s .log) (seat s q .stage) (seat s q .back) (view q l′ m′ (σ′ .stage) (σ′ .back)) l″ → Log l″
+    new-log : (l″ : List Entry) → l″ ≡ l′ → Grow (s .bench .steps) p q (r .start) (r .call) (s .log) (seat s q .stage) (seat s q .b2) (view q l′ m′ (σ′ .stage) (σ′ .b2)) l″ → Log l″
     new-log l″ el same = (old-fine, h .order)
     new-log l″ el (more e x) = (
       all-snoc FineT (s .log) e old-fine
@@ -179,18 +177,18 @@ module _ (f : Sizes) (w : Fit f) (s : State) (v : Sound f s) (h : Inv f s) (p : 
     )
 
     apart : (a b : ℕ) → a < processes f → b < processes f → (a ≡ b → ⊥) → pastB2 (seat t a .stage) ≡ true → pastB2 (seat t b .stage) ≡ true
-        → seat t a .back ≡ seat t b .back → ⊥
+        → seat t a .b2 ≡ seat t b .b2 → ⊥
     apart a b la lb ne =
-        at-seat (λ σ. pastB2 (σ .stage) ≡ true → pastB2 (seat t b .stage) ≡ true → σ .back ≡ seat t b .back → ⊥) a
-        (λ ea. at-seat (λ σ. pastB2 (σ′ .stage) ≡ true → pastB2 (σ .stage) ≡ true → σ′ .back ≡ σ .back → ⊥) b
+        at-seat (λ σ. pastB2 (σ .stage) ≡ true → pastB2 (seat t b .stage) ≡ true → σ .b2 ≡ seat t b .b2 → ⊥) a
+        (λ ea. at-seat (λ σ. pastB2 (σ′ .stage) ≡ true → pastB2 (σ .stage) ≡ true → σ′ .b2 ≡ σ .b2 → ⊥) b
         (λ eb. absurd (ne (ea ∙ sym eb)))
         (λ eb u v d. clash b lb eb v d (backs u)))
-        (λ ea. at-seat (λ σ. pastB2 (seat s a .stage) ≡ true → pastB2 (σ .stage) ≡ true → seat s a .back ≡ σ .back → ⊥) b
+        (λ ea. at-seat (λ σ. pastB2 (seat s a .stage) ≡ true → pastB2 (σ .stage) ≡ true → seat s a .b2 ≡ σ .b2 → ⊥) b
         (λ eb u v d. clash a la ea u (sym d) (backs v))
         (λ eb. h .apart a b la lb ne))
       where
-        clash : (b : ℕ) → b < processes f → (b ≡ q → ⊥) → pastB2 (seat s b .stage) ≡ true → σ′ .back ≡ seat s b .back
-            → (σ′ .back ≡ s .bench .steps) ⊎ ((pastB2 (seat s q .stage) ≡ true) × (σ′ .back ≡ seat s q .back)) → ⊥
+        clash : (b : ℕ) → b < processes f → (b ≡ q → ⊥) → pastB2 (seat s b .stage) ≡ true → σ′ .b2 ≡ seat s b .b2
+            → (σ′ .b2 ≡ s .bench .steps) ⊎ ((pastB2 (seat s q .stage) ≡ true) × (σ′ .b2 ≡ seat s q .b2)) → ⊥
         clash b lb e v d (inl u) = let lt = h .queues b lb .held v .late in omega arith
         clash b lb e v d (inr u) = h .apart q b (k .placed .queue) lb (λ c. e (sym c)) (u .0) v (sym (u .1) ∙ d)
 

@@ -10,15 +10,13 @@ use Rattle.word.specs.Stages.{pastB2}
 use Rattle.word.specs.declared.Stage.{Stage}
 use Rattle.word.specs.declared.Stage.the-variants.{Idle}
 use Rattle.log.specs.declared.Entry.{Entry}
-use Rattle.bench.specs.declared.Queue.{Queue}
-use Rattle.bench.proofs.KindLaws.{isOwn}
-use Rattle.bench.specs.Moment.{queueOf, pushedNode}
-use Rattle.bench.specs.State.{State, fresh, queueAt, processAt}
-use Rattle.bench.specs.Turn.{acted, idle}
-use Rattle.bench.specs.declared.Process.{Process}
+use Rattle.runs.proofs.KindLaws.{isOwn}
+use Rattle.runs.specs.Moment.{queueOf, pushedNode}
+use Rattle.runs.specs.State.{Process, Queue, State, fresh, queueAt, processAt}
+use Rattle.runs.specs.Turn.{acted, idle}
 use Rattle.base.proofs.Cases.{never}
-use Rattle.bench.proofs.Sound.{Sizes, Fit, processes, slotsAt, Sound, Steps, Fresh, rowAt}
-use Rattle.bench.proofs.Reached.{Reached, everywhere}
+use Rattle.runs.proofs.Sound.{Sizes, Fit, processes, slotsAt, Sound, Steps, Fresh, rowAt}
+use Rattle.runs.proofs.Reached.{Reached, everywhere}
 use Rattle.base.specs.Lists.{All, Pairs}
 use Rattle.base.proofs.Lists.{all-map}
 use Rattle.theorems.proofs.queue.Lists.{slice-none}
@@ -37,12 +35,12 @@ idle-ok f s v h = record {
   queues = λ j lt. let o = h .queues j lt in record {
     ctl = o .ctl;
     now-on = λ x i. o .now-on x (omega arith);
-    held = λ d. held-keep (s .bench .steps) (s .log) (memoryAt s j) (seat s j .stage) (seat s j .back) (nodesBy j (s .log) (memoryAt s j) (seat s j)) (s .log)
+    held = λ d. held-keep (s .bench .steps) (s .log) (memoryAt s j) (seat s j .stage) (seat s j .b2) (nodesBy j (s .log) (memoryAt s j) (seat s j)) (s .log)
         (memoryAt s j) (seat s j .stage) (nodesBy j (s .log) (memoryAt s j) (seat s j))
         (λ x i. refl) refl refl (λ a. a) (λ a. a) (λ a b. b) (λ a b. b) (o .held d);
   };
   timed = λ j lt. let o = h .timed j lt in record { begun = omega (arith, o .begun); back-after = o .back-after; since = o .since };
-  thieves = λ j lt. let r = processAt (s .bench) j in thief-keeps (f .size) (rely j (queueOf j (r .call)) (v .each j lt .queue)) (λ e i. i) j (r .start) (r .seen)
+  thieves = λ j lt. let r = processAt (s .bench) j in thief-keeps (f .size) (rely j (queueOf j (r .call)) (v .each j lt .queue)) (λ e i. i) j (r .start) (r .resetsAtT1)
       (λ e. omega arith) (r .stage) (h .thieves j lt);
   apart = h .apart;
   fine = all-map _ _ (λ e g. fine-keeps (s .bench .steps) (s .log) _ (s .log) _ (λ a b. b) (λ x i. refl) e g) (s .log) (h .fine);
@@ -51,8 +49,8 @@ idle-ok f s v h = record {
 }
   where
     -- nobody has stepped on the queue; suc j stands for a process that is not j
-    rely : (j q : ℕ) → q < processes f → Rely (s .bench .steps) (suc j) q (s .log) (memoryAt s q) (seat s q .stage) (seat s q .back) (nodesBy q (s .log) (memoryAt s q) (seat s q))
-        (s .log) (memoryAt s q) (seat s q .stage) (seat s q .back) (nodesBy q (s .log) (memoryAt s q) (seat s q))
+    rely : (j q : ℕ) → q < processes f → Rely (s .bench .steps) (suc j) q (s .log) (memoryAt s q) (seat s q .stage) (seat s q .b2) (nodesBy q (s .log) (memoryAt s q) (seat s q))
+        (s .log) (memoryAt s q) (seat s q .stage) (seat s q .b2) (nodesBy q (s .log) (memoryAt s q) (seat s q))
     rely j q lt = record {
       calm = calm-refl (memoryAt s q) (seat s q .stage);
       change = still refl refl;
@@ -68,16 +66,16 @@ none-before q (suc x) = event-free [] q x (content [] q none x) tt ∙ none-befo
 -- queue q of a state, of which log, queue, slots and its owner's stage are given
 abbrev QueueAs : Sizes → State → ℕ → List Entry → Queue → List ℕ → Stage → Type 0
 QueueAs f s q l m x st = QueueOk (f .size) (s .bench .steps) (cond (isOwn st) (pushedNode (processAt (s .bench) q .call)) 0) l
-    (record { word = m .word; resets = m .resets; slots = x }) (asOwner st) (processAt (s .bench) q .back)
-    (view q l (record { word = m .word; resets = m .resets; slots = x }) (asOwner st) (processAt (s .bench) q .back))
+    (record { word = m .word; resets = m .resets; slots = x }) (asOwner st) (processAt (s .bench) q .b2)
+    (view q l (record { word = m .word; resets = m .resets; slots = x }) (asOwner st) (processAt (s .bench) q .b2))
 
 fresh-ok : (f : Sizes) → Fit f → (s : State) → Fresh f s → Inv f s
 fresh-ok f w s z = record {
   queues = λ q lt. here q lt;
   timed = λ p lt. record { begun = z .begun p; back-after = λ e. never (ap pastB2 (sym (z .idle p)) ∙ e); since = λ e. subst (All _) (sym (z .log)) tt };
   thieves = λ p lt. subst (λ (x : Stage). AtTop (f .size) (s .bench .steps) p (queueOf p (processAt (s .bench) p .call)) (processAt (s .bench) p .start)
-      (processAt (s .bench) p .seen) (s .log) (memoryAt s (queueOf p (processAt (s .bench) p .call))) (seat s (queueOf p (processAt (s .bench) p .call)) .stage)
-      (seat s (queueOf p (processAt (s .bench) p .call)) .back)
+      (processAt (s .bench) p .resetsAtT1) (s .log) (memoryAt s (queueOf p (processAt (s .bench) p .call))) (seat s (queueOf p (processAt (s .bench) p .call)) .stage)
+      (seat s (queueOf p (processAt (s .bench) p .call)) .b2)
       (nodesBy (queueOf p (processAt (s .bench) p .call)) (s .log) (memoryAt s (queueOf p (processAt (s .bench) p .call)))
       (seat s (queueOf p (processAt (s .bench) p .call)))) x) (sym (z .idle p)) tt;
   apart = λ a b la lb ne e. never (ap (λ (x : Stage). pastB2 (asOwner x)) (sym (z .idle a)) ∙ e);

@@ -20,19 +20,18 @@ use Rattle.runfile.specs.Check.{sum}
 use Rattle.runfile.specs.Encode.{CallInRange, InRanges}
 use Rattle.runfile.specs.File.{RunFile}
 use Rattle.runfile.specs.declared.Call.the-variants.{Push, Pop}
-use Rattle.bench.specs.Moment.{queueOf, pushedNode, isTake, entry, nilMoment, takeMoment, nodeEntry, nilEntry}
-use Rattle.bench.specs.State.{State, nobody, queueAt, processAt, start}
-use Rattle.bench.specs.Turn.{begun, processAfter, ending, acted}
-use Rattle.bench.specs.declared.Process.{Process}
-use Rattle.bench.proofs.KindLaws.{isPush, Gives, gives}
+use Rattle.runs.specs.Moment.{queueOf, pushedNode, isTake, entry, nilMoment, takeMoment, nodeEntry, nilEntry}
+use Rattle.runs.specs.State.{Process, State, nobody, queueAt, processAt, start}
+use Rattle.runs.specs.Turn.{begun, processAfter, ending, acted}
+use Rattle.runs.proofs.KindLaws.{isPush, Gives, gives}
 use Rattle.base.specs.Lists.{All, Pairs}
 use Rattle.base.proofs.Lists.{all-snoc, all-map, all-in, in-all, pairs-snoc}
 use Rattle.theorems.proofs.queue.Memory.{logAfter, log-after}
-use Rattle.bench.proofs.Sound.{Sound, Was, goes, begins, Steps, rowAt, slotsAt}
-use Rattle.bench.proofs.Reached.{everywhere}
-use Rattle.bench.specs.States.{StateOf}
-use Rattle.bench.proofs.States.{ByScript, reached}
-use Rattle.bench.proofs.Scripts.{sizesOf, fit, low, high, finished, Scripted, Each, each-act, each-start, start-fresh}
+use Rattle.runs.proofs.Sound.{Sound, Was, goes, begins, Steps, rowAt, slotsAt}
+use Rattle.runs.proofs.Reached.{everywhere}
+use Rattle.runs.specs.States.{StateOf}
+use Rattle.runs.proofs.States.{ByScript, reached}
+use Rattle.runs.proofs.Scripts.{sizesOf, fit, low, high, finished, Scripted, Each, each-act, each-start, start-fresh}
 
 abbrev pub Pushes : What → Type 0
 Pushes w = (w ≡ Pushed) ⊎ (w ≡ Full)
@@ -89,7 +88,7 @@ one-process f i a b la ha lb hb = by (decLt a b) (decLt b a)
 finished-le : (r : Process) → finished r ≤ r .next
 finished-le r = either-way (λ (n : ℕ). n ≤ r .next) (isIdle (r .stage)) (λ _. omega arith) (λ _. omega arith)
 
-pub node-other : (p n : ℕ) (r owner : Process) (t x : ℕ) (b : Bool) → Pushes (what (cond b (entry p n r TopNode x (takeMoment n owner t)) (entry p n r BottomNode x (2 * r .back)))) → ⊥
+pub node-other : (p n : ℕ) (r owner : Process) (t x : ℕ) (b : Bool) → Pushes (what (cond b (entry p n r TopNode x (takeMoment n owner t)) (entry p n r BottomNode x (2 * r .b2)))) → ⊥
 node-other p n r owner t x true (inl e) = let z : _≡_ {A = ℕ} 0 1 = cc in omega arith
 node-other p n r owner t x true (inr e) = let z : _≡_ {A = ℕ} 0 1 = cc in omega arith
 node-other p n r owner t x false (inl e) = let z : _≡_ {A = ℕ} 0 1 = cc in omega arith

@@ -14,12 +14,11 @@ use Rattle.log.specs.declared.What.the-variants.{Pushed, Full, BottomNode, Bott
 use Rattle.word.specs.Stages.{isIdle, pastB2}
 use Rattle.word.specs.declared.Stage.{Stage}
 use Rattle.runfile.specs.declared.Call.{Call}
-use Rattle.bench.specs.Moment.{queueOf, pushedNode}
-use Rattle.bench.specs.State.{State, processAt}
-use Rattle.bench.specs.declared.Process.{Process}
+use Rattle.runs.specs.Moment.{queueOf, pushedNode}
+use Rattle.runs.specs.State.{Process, State, processAt}
 use Rattle.rules.specs.Contents.{bears}
-use Rattle.bench.proofs.KindLaws.{isOwn}
-use Rattle.bench.proofs.Sound.{Sizes, processes}
+use Rattle.runs.proofs.KindLaws.{isOwn}
+use Rattle.runs.proofs.Sound.{Sizes, processes}
 use Rattle.base.specs.Lists.{All, Pairs}
 use Rattle.base.proofs.Lists.{In, all-map, in-snoc}
 use Rattle.theorems.proofs.queue.Content.{Free, content, add-other}
@@ -31,28 +30,28 @@ use Rattle.theorems.proofs.queue.OwnerTurn.{Old, free-snoc}
 -- a process as the owner of its queue: its own calls, and the node that it pushes
 pub record Seat : Type 0 where
   pub stage : Stage
-  pub back : ℕ
+  pub b2 : ℕ
   pub node : ℕ
 
 abbrev pub seatOf : Process → Seat
-seatOf r = record { stage = asOwner (r .stage); back = r .back; node = cond (isOwn (r .stage)) (pushedNode (r .call)) 0 }
+seatOf r = record { stage = asOwner (r .stage); b2 = r .b2; node = cond (isOwn (r .stage)) (pushedNode (r .call)) 0 }
 
 abbrev pub seat : State → ℕ → Seat
 seat s j = seatOf (processAt (s .bench) j)
 
 abbrev pub nodesBy : ℕ → List Entry → Memory → Seat → ℕ → List ℕ
-nodesBy q l m σ = view q l m (σ .stage) (σ .back)
+nodesBy q l m σ = view q l m (σ .stage) (σ .b2)
 
 abbrev pub SeatOk : ℕ → ℕ → ℕ → List Entry → Memory → Seat → Type 0
-SeatOk C n q l m σ = QueueOk C n (σ .node) l m (σ .stage) (σ .back) (nodesBy q l m σ)
+SeatOk C n q l m σ = QueueOk C n (σ .node) l m (σ .stage) (σ .b2) (nodesBy q l m σ)
 
 abbrev pub ThiefOk : ℕ → ℕ → ℕ → List Entry → Memory → Seat → Process → Type 0
-ThiefOk C n p l m σ r = AtTop C n p (queueOf p (r .call)) (r .start) (r .seen) l m (σ .stage) (σ .back) (nodesBy (queueOf p (r .call)) l m σ) (r .stage)
+ThiefOk C n p l m σ r = AtTop C n p (queueOf p (r .call)) (r .start) (r .resetsAtT1) l m (σ .stage) (σ .b2) (nodesBy (queueOf p (r .call)) l m σ) (r .stage)
 
 -- a process in its time: its call began after its entries' ends, and B2 after that
 pub record Timed (n p : ℕ) (l : List Entry) (r : Process) : Type 0 where
   pub begun : r .start ≤ n
-  pub back-after : pastB2 (r .stage) ≡ true → r .start ≤ r .back
+  pub back-after : pastB2 (r .stage) ≡ true → r .start ≤ r .b2
   pub since : isIdle (r .stage) ≡ false → All (λ (e : Entry). e .process ≡ p → e .end < r .start) l
 
 -- an entry a before an entry b in the log
@@ -83,7 +82,7 @@ pub record Inv (f : Sizes) (s : State) : Type 0 where
   pub timed : (p : ℕ) → p < processes f → Timed (s .bench .steps) p (s .log) (processAt (s .bench) p)
   pub thieves : (p : ℕ) → p < processes f → ThiefOk (f .size) (s .bench .steps) p (s .log) (memoryAt s (queueOf p (processAt (s .bench) p .call))) (seat s (queueOf p (processAt (s .bench) p .call))) (processAt (s .bench) p)
   pub apart : (a b : ℕ) → a < processes f → b < processes f → (a ≡ b → ⊥) → pastB2 (seat s a .stage) ≡ true → pastB2 (seat s b .stage) ≡ true
-      → seat s a .back ≡ seat s b .back → ⊥
+      → seat s a .b2 ≡ seat s b .b2 → ⊥
   pub fine : All (λ (e : Entry). Fine (s .bench .steps) (s .log) (nodesBy (e .queue) (s .log) (memoryAt s (e .queue)) (seat s (e .queue))) e) (s .log)
   pub order : Pairs Order (s .log)
   pub written : All (Written (processes f)) (s .log)

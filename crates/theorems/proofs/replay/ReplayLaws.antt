@@ -16,18 +16,16 @@ use Rattle.runfile.specs.Check.{sum}
 use Rattle.runfile.proofs.CheckLaws.{sum-next}
 use Rattle.runfile.specs.Encode.{InRanges}
 use Rattle.runfile.specs.File.{RunFile, good, script}
-use Rattle.bench.proofs.ClosingLaws.{all-closed}
-use Rattle.bench.specs.Run.{Outcome, play, lowest, close, closingSteps, closed, tableRow, tableAt, tableSize, finished, played, closingStep}
-use Rattle.bench.specs.State.{State, fresh, processAt, start}
-use Rattle.bench.specs.Turn.{turn, turning}
-use Rattle.bench.specs.declared.Process.{Process}
-use Rattle.bench.specs.declared.Queue.{Queue}
-use Rattle.bench.proofs.InRange.{run-cases}
-use Rattle.bench.proofs.States.{closer}
+use Rattle.runs.proofs.ClosingLaws.{all-closed}
+use Rattle.runs.specs.Run.{Outcome, play, lowest, close, closingSteps, closed, tableRow, tableAt, tableSize, finished, played, closingStep}
+use Rattle.runs.specs.State.{Process, Queue, State, fresh, processAt, start}
+use Rattle.runs.specs.Turn.{turn, turning}
+use Rattle.runs.proofs.InRange.{run-cases}
+use Rattle.runs.proofs.States.{closer}
 use Rattle.theorems.specs.Replay.{freshTable, numbers, Lent, replay, Sheet, lowestHalfDone, sheetAfter, freshSheet, Accepts, lentWith, lentPlaying, lentClosing, lentBy, tableOf, Replayed, EveryRunReplayed, OnlyWay}
 use Rattle.theorems.proofs.replay.ReplayStep.{noteOf, sheetOf, Step, act-step, after-act, turn-step, after-turn}
-use Rattle.bench.proofs.Sound.{Sound, sound-fresh}
-use Rattle.bench.proofs.Scripts.{sizesOf, fit, Each, each-start, start-fresh}
+use Rattle.runs.proofs.Sound.{Sound, sound-fresh}
+use Rattle.runs.proofs.Scripts.{sizesOf, fit, Each, each-start, start-fresh}
 
 -- the stages ls replay what is left of a run from s on, with ps left of the schedule; it ends in the state e
 record Replays (f : RunFile) (e : State) (ps : List ℕ) (s : State) (ls : List Lent) : Type 0 where

@@ -25,15 +25,13 @@ use Rattle.runfile.specs.Encode.{InRanges}
 use Rattle.runfile.specs.File.{RunFile}
 use Rattle.runfile.specs.declared.Call.{Call}
 use Rattle.runfile.specs.declared.Call.the-variants.{Pop}
-use Rattle.bench.specs.Moment.{queueOf}
-use Rattle.bench.specs.State.{State, fresh, nobody, queueAt, processAt}
-use Rattle.bench.specs.Turn.{firstStage, begun, processAfter, queueAfter, acted, act, idle, turnAs, turn, turning}
-use Rattle.bench.specs.declared.Process.{Process}
-use Rattle.bench.specs.declared.Queue.{Queue}
-use Rattle.bench.proofs.KindLaws.{idle-is}
+use Rattle.runs.specs.Moment.{queueOf}
+use Rattle.runs.specs.State.{Process, Queue, State, fresh, nobody, queueAt, processAt}
+use Rattle.runs.specs.Turn.{firstStage, begun, processAfter, queueAfter, acted, act, idle, turnAs, turn, turning}
+use Rattle.runs.proofs.KindLaws.{idle-is}
 use Rattle.theorems.specs.Replay.{wordAt, slotsAt, Lent, answerTo, Note, firstOf, queueFor, lends, noted, Sheet, noteAt, whoNext, nextLent, sheetAfter, lentWith, tableOf}
-use Rattle.bench.proofs.Sound.{Sound, Was, goes, begins, Steps, rowAt, act-is, sound-act, sound-idle}
-use Rattle.bench.proofs.Scripts.{sizesOf, fit, finished, sum-take, Scripted, Each, ready-case, turn-case, each-act}
+use Rattle.runs.proofs.Sound.{Sound, Was, goes, begins, Steps, rowAt, act-is, sound-act, sound-idle}
+use Rattle.runs.proofs.Scripts.{sizesOf, fit, finished, sum-take, Scripted, Each, ready-case, turn-case, each-act}
 
 -- a list mapped after a store
 map-set : {A B : Type 0} (g : A → B) (l : List A) (i : ℕ) (x : A) → map g (set l i x) ≡ set (map g l) i (g x)

@@ -5,9 +5,9 @@ use lib.ListN.{getD}
 use lib.Seq.{getD-set-same}
 use Rattle.queue.specs.Step.{stored, steppedOn}
 use Rattle.queue.specs.declared.Stepped.{Stepped}
-use Rattle.bench.specs.Moment.{queueOf}
-use Rattle.bench.specs.State.{fresh, nobody, queueAt}
-use Rattle.bench.specs.Turn.{queueAfter, processAfter, act}
+use Rattle.runs.specs.Moment.{queueOf}
+use Rattle.runs.specs.State.{fresh, nobody, queueAt}
+use Rattle.runs.specs.Turn.{queueAfter, processAfter, act}
 use Rattle.theorems.specs.SameStep.{RunSteps, DeskSteps}
 
 pub run-steps : RunSteps

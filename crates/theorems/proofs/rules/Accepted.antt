@@ -8,23 +8,23 @@ use Rattle.log.specs.Encode.{Log, InRange}
 use Rattle.runfile.specs.Encode.{InRanges}
 use Rattle.runfile.specs.File.{RunFile}
 use Rattle.runfile.proofs.RangeLaws.{calls-most}
-use Rattle.bench.proofs.ClosingLaws.{steps-most, all-closed-idle}
-use Rattle.bench.proofs.EntriesLaws.{entries-most}
-use Rattle.bench.specs.Run.{Outcome, closed}
+use Rattle.runs.proofs.ClosingLaws.{steps-most, all-closed-idle}
+use Rattle.runs.proofs.EntriesLaws.{entries-most}
+use Rattle.runs.specs.Run.{Outcome, closed}
 use Rattle.rules.specs.Accepted.{AcceptedLog}
 use Rattle.rules.proofs.AcceptedLaws.{accepted-judged}
 use Rattle.rules.specs.Judge.{says, judgeOf}
-use Rattle.bench.specs.State.{processAt, start}
+use Rattle.runs.specs.State.{processAt, start}
 use Rattle.word.specs.declared.Stage.the-variants.{Idle}
-use Rattle.bench.proofs.KindLaws.{idle-is}
-use Rattle.bench.proofs.Scripts.{sizesOf, fit, start-fresh}
+use Rattle.runs.proofs.KindLaws.{idle-is}
+use Rattle.runs.proofs.Scripts.{sizesOf, fit, start-fresh}
 use Rattle.theorems.proofs.queues.Origins.{origins}
-use Rattle.bench.proofs.States.{ByScript, reached, the-end}
+use Rattle.runs.proofs.States.{ByScript, reached, the-end}
 use Rattle.theorems.proofs.queues.Whole.{Inv}
 use Rattle.theorems.proofs.queues.Kept.{kept}
 use Rattle.theorems.proofs.rules.Room.{Room, room-fresh, room-idle, room-act}
 use Rattle.theorems.proofs.rules.Rules.{rules-kept, fields-fit}
-use Rattle.bench.proofs.InRange.{run-cases}
+use Rattle.runs.proofs.InRange.{run-cases}
 use Rattle.theorems.specs.EveryLogAccepted.{EveryLogAccepted}
 
 -- the log of the run of f

@@ -18,18 +18,16 @@ use Rattle.queue.specs.declared.Next.the-variants as next
 use Rattle.word.specs.declared.Stage.{Stage}
 use Rattle.word.specs.declared.Stage.the-variants.{Idle, P1, P2, P3, T1, T2, T3, T4, B1, B2, B3, B4, B5, B6, B7}
 use Rattle.queue.specs.declared.Stepped.{Stepped}
-use Rattle.bench.specs.Moment.{queueOf, pushedNode, isTake, entry, nilMoment, takeMoment}
-use Rattle.bench.specs.State.{State, fresh, queueAt, processAt}
-use Rattle.bench.specs.Turn.{queueAfter, ending, acted, idle}
-use Rattle.bench.specs.declared.Process.{Process}
-use Rattle.bench.specs.declared.Queue.{Queue}
+use Rattle.runs.specs.Moment.{queueOf, pushedNode, isTake, entry, nilMoment, takeMoment}
+use Rattle.runs.specs.State.{Process, Queue, State, fresh, queueAt, processAt}
+use Rattle.runs.specs.Turn.{queueAfter, ending, acted, idle}
 use Rattle.base.proofs.Bools.{and-i, and-0, and-1}
 use Rattle.rules.specs.Rules.{pushedOn, donePushes}
 use Rattle.rules.specs.Search.{count}
 use Rattle.rules.proofs.SearchLaws.{count-mono}
 use Rattle.theorems.proofs.queue.Cases.{if-age}
-use Rattle.bench.proofs.KindLaws.{isOwn, isFirst}
-use Rattle.bench.proofs.Sound.{Sizes, Fit, Fresh, processes, Sound, Was, goes, begins, Steps, rowAt}
+use Rattle.runs.proofs.KindLaws.{isOwn, isFirst}
+use Rattle.runs.proofs.Sound.{Sizes, Fit, Fresh, processes, Sound, Was, goes, begins, Steps, rowAt}
 use Rattle.base.specs.Lists.{All}
 use Rattle.base.proofs.Lists.{all-snoc, all-map}
 use Rattle.theorems.proofs.queue.Content.{at}
@@ -179,7 +177,7 @@ module _ (f : Sizes) (w : Fit f) (s : State) (v : Sound f s) (h : Inv f s) (j : 
   at-first r (begins _ _) e = refl
 
   -- no other entry is a FULL
-  node-other : (owner : Process) (t x : ℕ) (b : Bool) → what (cond b (entry p n r TopNode x (takeMoment n owner t)) (entry p n r BottomNode x (2 * r .back))) ≡ Full
+  node-other : (owner : Process) (t x : ℕ) (b : Bool) → what (cond b (entry p n r TopNode x (takeMoment n owner t)) (entry p n r BottomNode x (2 * r .b2))) ≡ Full
       → ⊥
   node-other owner t x true e = let z : _≡_ {A = ℕ} 0 1 = cc in omega arith
   node-other owner t x false e = let z : _≡_ {A = ℕ} 0 1 = cc in omega arith

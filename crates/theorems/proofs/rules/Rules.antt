@@ -20,10 +20,10 @@ use Rattle.word.specs.declared.Stage.the-variants.{Idle}
 use Rattle.base.proofs.Cases.{if-lt, ever}
 use Rattle.runfile.specs.Encode.{InRanges}
 use Rattle.runfile.specs.File.{RunFile}
-use Rattle.bench.specs.State.{State, processAt}
+use Rattle.runs.specs.State.{State, processAt}
 use Rattle.rules.specs.Accepted.{Rule1, Rule3, Rule4, EmptyIn, RemovedIn, Accepted}
 use Rattle.rules.specs.Contents.{bears, dropLast, dropFirst, applied, eventAt, before}
-use Rattle.bench.proofs.Scripts.{sizesOf}
+use Rattle.runs.proofs.Scripts.{sizesOf}
 use Rattle.theorems.proofs.queues.Origins.{Origins, Differ, node-in as file-node}
 use Rattle.base.specs.Lists.{All}
 use Rattle.base.proofs.Lists.{all-snoc, all-at, pairs-at, in-at}
@@ -115,7 +115,7 @@ module _ (f : RunFile) (w : InRanges f) (s : State) (h : Inv (sizesOf f) s) (j :
 
   -- no pop is pending
   is-before : (q x : ℕ) → nodesBy q l (memoryAt s q) (seat s q) x ≡ nodes q x
-  is-before q x = ap (λ (z : Stage). content l q (pending (memoryAt s q) (asOwner z) (seat s q .back)) x) (idle q) ∙ content-before l q x
+  is-before q x = ap (λ (z : Stage). content l q (pending (memoryAt s q) (asOwner z) (seat s q .b2)) x) (idle q) ∙ content-before l q x
 
   wrote : (i : ℕ) → i < length l → Written (length (f .shares)) (at l i)
   wrote i lt = all-at _ noEntry l (h .written) i lt

@@ -22,21 +22,19 @@ use Rattle.queue.specs.declared.Stepped.{Stepped}
 use Rattle.word.specs.declared.Word.{Word}
 use Rattle.runfile.specs.declared.Call.{Call}
 use Rattle.runfile.specs.declared.Call.the-variants.{Push, Pop, Take}
-use Rattle.bench.specs.Moment.{queueOf, isTake, goneRound}
-use Rattle.bench.specs.Run.{Outcome, closed}
-use Rattle.bench.proofs.InRange.{run-cases}
+use Rattle.runs.specs.Moment.{queueOf, isTake, goneRound}
+use Rattle.runs.specs.Run.{Outcome, closed}
+use Rattle.runs.proofs.InRange.{run-cases}
 use Rattle.theorems.specs.Tags.{TagIsResets, NoneGoneRound, FewResetsEnough}
-use Rattle.bench.specs.State.{State, fresh, nobody, queueAt, processAt, start}
+use Rattle.runs.specs.State.{Process, Queue, State, fresh, nobody, queueAt, processAt, start}
 use Rattle.base.proofs.Bools.{or-r}
-use Rattle.bench.specs.Turn.{firstStage, begun, processAfter, queueAfter, acted, idle}
-use Rattle.bench.specs.declared.Process.{Process}
-use Rattle.bench.specs.declared.Queue.{Queue}
+use Rattle.runs.specs.Turn.{firstStage, begun, processAfter, queueAfter, acted, idle}
 use Rattle.theorems.proofs.queue.Cases.{if-age}
-use Rattle.bench.proofs.KindLaws.{isPush, isOwn, isTop, within, own-queue, whose}
-use Rattle.bench.proofs.Sound.{Sizes, Fit, Fresh, processes, slotsAt, Sound, Was, goes, begins, Steps, rowAt}
-use Rattle.bench.proofs.Reached.{Reached, everywhere}
-use Rattle.bench.proofs.Scripts.{sizesOf, fit, start-fresh}
-use Rattle.bench.proofs.States.{ByScript, reached, the-end}
+use Rattle.runs.proofs.KindLaws.{isPush, isOwn, isTop, within, own-queue, whose}
+use Rattle.runs.proofs.Sound.{Sizes, Fit, Fresh, processes, slotsAt, Sound, Was, goes, begins, Steps, rowAt}
+use Rattle.runs.proofs.Reached.{Reached, everywhere}
+use Rattle.runs.proofs.Scripts.{sizesOf, fit, start-fresh}
+use Rattle.runs.proofs.States.{ByScript, reached, the-end}
 
 -- the tag that a stage has loaded; 0 where there is none
 abbrev pub loadedTag : Stage → ℕ
@@ -138,13 +136,13 @@ few-none W a b le lt e =
     (after-resets W (b - a) (a % 2 ^ W) (mod-lt a (pow-pos W)) ∙ mod-add-mod a (2 ^ W) (b - a) ∙ ap (λ (x : ℕ). x % 2 ^ W) d ∙ e) in
     omega arith
 
-none-gone : (r : Process) (n : ℕ) (o : Next) → ((x : ℕ) → o ≡ next.Node x → isTake (r .call) ≡ true → r .seen ≡ n) → goneRound r n o ≡ 0
+none-gone : (r : Process) (n : ℕ) (o : Next) → ((x : ℕ) → o ≡ next.Node x → isTake (r .call) ≡ true → r .resetsAtT1 ≡ n) → goneRound r n o ≡ 0
 none-gone r n (next.Going z) h = refl
 none-gone r n next.Done h = refl
 none-gone r n (next.Node x) h = by (isTake (r .call)) refl
   where
-    by : (b : Bool) → isTake (r .call) ≡ b → _≡_ {A = ℕ} (cond (b && not (eqb (r .seen) n)) 1 0) 0
-    by true e = rw (eq-eqb (r .seen) n (h x refl e)) refl
+    by : (b : Bool) → isTake (r .call) ≡ b → _≡_ {A = ℕ} (cond (b && not (eqb (r .resetsAtT1) n)) 1 0) 0
+    by true e = rw (eq-eqb (r .resetsAtT1) n (h x refl e)) refl
     by false e = refl
 none-gone r n next.Nil h = refl
 none-gone r n next.Full h = refl
@@ -156,11 +154,11 @@ past-owns s e = or-r (isPush s) (leb 8 (rowNumber s)) (le-leb 8 (rowNumber s) (o
 -- what holds of the record of process p, or of one with its next call begun
 pub record Seen (W : ℕ) (s : State) (p : ℕ) (r : Process) : Type 0 where
   own : pastB4 (r .stage) ≡ true → loadedTag (r .stage) ≡ queueAt (s .bench) p .word .tag
-  thief : pastT1 (r .stage) ≡ true → (r .seen ≤ queueAt (s .bench) (queueOf p (r .call)) .resets) × (loadedTag (r .stage) ≡ r .seen % 2 ^ W)
+  thief : pastT1 (r .stage) ≡ true → (r .resetsAtT1 ≤ queueAt (s .bench) (queueOf p (r .call)) .resets) × (loadedTag (r .stage) ≡ r .resetsAtT1 % 2 ^ W)
 
 pub record TagsRight (f : Sizes) (s : State) : Type 0 where
   pub tags : (q : ℕ) → q < processes f → queueAt (s .bench) q .word .tag ≡ queueAt (s .bench) q .resets % 2 ^ f .width
-  pub seen : (p : ℕ) → p < processes f → Seen (f .width) s p (processAt (s .bench) p)
+  pub loaded-tags : (p : ℕ) → p < processes f → Seen (f .width) s p (processAt (s .bench) p)
 
 module _ (f : Sizes) (h : Fit f) (s : State) (v : Sound f s) (i : TagsRight f s) (p : ℕ) (r : Process) (k : Steps f s p r) where
   abbrev q : ℕ
@@ -177,7 +175,7 @@ module _ (f : Sizes) (h : Fit f) (s : State) (v : Sound f s) (i : TagsRight f s)
 
   -- a call that begins has loaded no tag
   saw : (r : Process) → Was f s p r → Seen (f .width) s p r
-  saw r goes = i .seen p (k .below)
+  saw r goes = i .loaded-tags p (k .below)
   saw r (begins call _) = first call
     where
       first : (call : Call) → Seen (f .width) s p (begun (s .bench .steps) call (processAt (s .bench) p))
@@ -191,10 +189,10 @@ module _ (f : Sizes) (h : Fit f) (s : State) (v : Sound f s) (i : TagsRight f s)
   owns : isOwn (r .stage) ≡ true → queueOf p (r .call) ≡ p
   owns e = own-queue p (r .call) (k .placed .suits .own e)
 
-  step : TagStep (f .width) (queueAt (s .bench) (queueOf p (r .call)) .word) (queueAt (s .bench) (queueOf p (r .call)) .resets) (r .seen) (r .stage) (rowAt f s p r)
+  step : TagStep (f .width) (queueAt (s .bench) (queueOf p (r .call)) .word) (queueAt (s .bench) (queueOf p (r .call)) .resets) (r .resetsAtT1) (r .stage) (rowAt f s p r)
   step =
       tag-step (f .width) (f .size) (queueAt (s .bench) (queueOf p (r .call)) .word) (loaded (slotsAt s (queueOf p (r .call))) (loadedSlot (r .stage)))
-      (queueAt (s .bench) (queueOf p (r .call)) .resets) (r .seen) (i .tags (queueOf p (r .call)) (k .placed .queue)) (r .stage)
+      (queueAt (s .bench) (queueOf p (r .call)) .resets) (r .resetsAtT1) (i .tags (queueOf p (r .call)) (k .placed .queue)) (r .stage)
       (λ e. subst (λ (j : ℕ). loadedTag (r .stage) ≡ queueAt (s .bench) j .word .tag) (sym (owns (past-owns (r .stage) e))) (mine .own e)) (mine .thief)
 
   at-queue : (Q : Queue → Type 0) (j : ℕ) → (j ≡ queueOf p (r .call) → Q (queueAfter (queueAt (s .bench) (queueOf p (r .call))) (rowAt f s p r)))
@@ -219,9 +217,9 @@ module _ (f : Sizes) (h : Fit f) (s : State) (v : Sound f s) (i : TagsRight f s)
   tags-act : TagsRight f (acted p r s (rowAt f s p r))
   tags-act = record {
     tags = λ j lt. at-queue (λ (m : Queue). m .word .tag ≡ m .resets % 2 ^ f .width) j (λ e. step .right) (λ e. i .tags j lt);
-    seen = λ j lt. if-set (λ (x : Process). Seen (f .width) t j x) (s .bench .processes) p j r′ nobody (omega (arith, k .below, v .records, h .processes))
+    loaded-tags = λ j lt. if-set (λ (x : Process). Seen (f .width) t j x) (s .bench .processes) p j r′ nobody (omega (arith, k .below, v .records, h .processes))
         (λ e. rw e self)
-        (λ e. let w = i .seen j lt in record {
+        (λ e. let w = i .loaded-tags j lt in record {
           own = λ d. w .own d ∙ sym (other-own j e);
           thief = λ d. (omega (arith, w .thief d .0, resets-up (queueOf j (processAt (s .bench) j .call))), w .thief d .1);
         });
@@ -233,20 +231,20 @@ module _ (f : Sizes) (h : Fit f) (s : State) (v : Sound f s) (i : TagsRight f s)
         own = λ d. at-queue (λ (m : Queue). loadedTag (stageAfter (rowAt f s p r .next)) ≡ m .word .tag) p
             (λ e. step .own d) (λ e. absurd (e (sym (owns (within _ _ _ _ (r .stage) .own (past-owns (stageAfter (rowAt f s p r .next)) d))))));
         thief = λ d. (
-          at-queue (λ (m : Queue). cond (atT1 (r .stage)) (queueAt (s .bench) q .resets) (r .seen) ≤ m .resets) q (λ e. step .since d)
+          at-queue (λ (m : Queue). cond (atT1 (r .stage)) (queueAt (s .bench) q .resets) (r .resetsAtT1) ≤ m .resets) q (λ e. step .since d)
               (λ e. absurd (e refl)),
           step .thief d,
         );
       }
 
-  none-here : (isTop (r .stage) ≡ true → rowNumber (r .stage) ≡ 7 → queueAt (s .bench) (queueOf p (r .call)) .resets < r .seen + 2 ^ f .width)
+  none-here : (isTop (r .stage) ≡ true → rowNumber (r .stage) ≡ 7 → queueAt (s .bench) (queueOf p (r .call)) .resets < r .resetsAtT1 + 2 ^ f .width)
       → goneRound r (queueAt (s .bench) (queueOf p (r .call)) .resets) (rowAt f s p r .next) ≡ 0
   none-here few = none-gone r (queueAt (s .bench) q .resets) (o .next) (λ x e d.
       let tp = whose (r .stage) (k .busy) (not-own d (isOwn (r .stage)) refl) in
       let u = step .won tp x e in
       let past : pastT1 (r .stage) ≡ true = rw (u .0) refl in
       let w = mine .thief past in
-      few-none (f .width) (r .seen) (queueAt (s .bench) q .resets) (w .0) (few tp (u .0)) (sym (i .tags q (k .placed .queue)) ∙ u .1 ∙ w .1))
+      few-none (f .width) (r .resetsAtT1) (queueAt (s .bench) q .resets) (w .0) (few tp (u .0)) (sym (i .tags q (k .placed .queue)) ∙ u .1 ∙ w .1))
     where
       not-own : isTake (r .call) ≡ true → (b : Bool) → isOwn (r .stage) ≡ b → isOwn (r .stage) ≡ false
       not-own d true e = ever (sym d ∙ k .placed .suits .own e)
@@ -263,13 +261,13 @@ module _ (f : Sizes) (h : Fit f) (s : State) (v : Sound f s) (i : TagsRight f s)
       first (Take q) e = omega arith
 
 tags-idle : (f : Sizes) (s : State) → TagsRight f s → TagsRight f (idle s)
-tags-idle f s i = record { tags = i .tags; seen = λ p lt. let w = i .seen p lt in record { own = w .own; thief = w .thief } }
+tags-idle f s i = record { tags = i .tags; loaded-tags = λ p lt. let w = i .loaded-tags p lt in record { own = w .own; thief = w .thief } }
 
 tags-fresh : (f : Sizes) → Fit f → (s : State) → Fresh f s → TagsRight f s
 tags-fresh f h s z = record {
   tags = λ q lt. subst (λ (l : List Queue). getD l q fresh .word .tag ≡ getD l q fresh .resets % 2 ^ f .width) (sym (z .queues))
       (rw (getD-replicate 8 q fresh fresh (omega (arith, h .processes))) (sym (zero-mod (2 ^ f .width))));
-  seen = λ p lt. record { own = λ e. never (ap pastB4 (sym (z .idle p)) ∙ e); thief = λ e. never (ap pastT1 (sym (z .idle p)) ∙ e) };
+  loaded-tags = λ p lt. record { own = λ e. never (ap pastB4 (sym (z .idle p)) ∙ e); thief = λ e. never (ap pastT1 (sym (z .idle p)) ∙ e) };
 }
 
 -- the resets of each queue are at most the steps
@@ -318,7 +316,7 @@ none-gone-round f h few =
         arith,
         i .1,
         none-here z w s v (i .0) p r k (λ _ e.
-            subst (λ (x : Process). queueAt (s .bench) (queueOf p (x .call)) .resets < x .seen + 2 ^ f .width) (sym (at-T4 z w s v (i .0) p r k r (k .was) e))
+            subst (λ (x : Process). queueAt (s .bench) (queueOf p (x .call)) .resets < x .resetsAtT1 + 2 ^ f .width) (sym (at-T4 z w s v (i .0) p r k r (k .was) e))
             (few s (ok .1) p (k .below) (ap (λ (x : Process). rowNumber (x .stage)) (sym (at-T4 z w s v (i .0) p r k r (k .was) e)) ∙ e))),
       ),
     ))

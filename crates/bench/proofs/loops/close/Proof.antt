@@ -8,9 +8,10 @@ use lib.ListN.{length, getD}
 use native.Mathlib.Omega.{arith}
 use Rattle.runfile.specs.File.{firstCalls}
 use Rattle.bench.proofs.RunLaws.{Closing, along-length, closing-start, closing-next, closing-early, closing-all}
-use Rattle.bench.specs.inner.Layout.{stateIn}
-use Rattle.bench.proofs.TurnLaws.{calls-aimed}
-use Rattle.bench.proofs.HalfLaws.{next-closed, run-closed, run-open}
+use Rattle.bench.specs.inner.Layout.{benchIn, stateIn}
+use Rattle.bench.proofs.LayoutLaws.{held-processes}
+use Rattle.runs.proofs.TurnLaws.{calls-aimed}
+use Rattle.runs.proofs.HalfLaws.{next-closed, run-closed, run-open}
 use Rattle.bench.proofs.loops.close.Statement.{statement}
 use Rattle.bench.proofs.loops.close.Tie as tie
 
@@ -29,7 +30,7 @@ loop-holds : tie.Need-loop-holds Inv-loop μ-loop
 loop-holds c = let s = c .before .before .before in (omega arith, s .pre .all-slots, closing-start _ _ _ _ _ (s .pre .counted) (s .pre .few))
 
 half-done-requires : tie.Need-half-done-requires Inv-loop μ-loop
-half-done-requires c κs = c .before .loop .inv .2 .0 .counted .processes
+half-done-requires c κs = held-processes (c .before .loop .after) _ (c .before .loop .inv .2 .0 .counted)
 
 same-length : tie.Need-same-length Inv-loop μ-loop
 same-length c = c .before .before .before .loop .inv .1 ∙ sym (c .before .before .before .before .before .before .before .pre .all-slots)
@@ -40,7 +41,7 @@ same-length-2 c = along-length _ _ _ _ _ _ _ (c .before .before .before .loop .i
 returns : tie.Need-returns Inv-loop μ-loop
 returns c =
     let l = c .before .before .before .loop in
-    closing-early _ _ _ _ _ _ _ _ _ (l .inv .2) (run-closed (l .after .processes) (l .inv .2 .0 .counted .processes) _ (c .before .half-done .ensures) (c .if1 .taken)) 48 (l .inv .0)
+    closing-early _ _ _ _ _ _ _ _ _ (l .inv .2) (run-closed (benchIn (l .after) .processes) (l .inv .2 .0 .counted .processes) _ (c .before .half-done .ensures) (c .if1 .taken)) 48 (l .inv .0)
 
 cast-p : tie.Need-cast-p Inv-loop μ-loop
 cast-p c = omega (arith, trailing-le 8 (c .before .half-done .result))
@@ -51,7 +52,7 @@ play-requires c κs =
     let l = c .before .before .before .before .before .before .loop in
     let counted = l .inv .2 .0 .counted in
     let set = c .before .before .before .before .half-done .result in
-    let lowest = run-open (l .after .processes) (counted .processes) set (c .before .before .before .before .half-done .ensures) (c .before .before .before .if1 .left) in
+    let lowest = run-open (benchIn (l .after) .processes) (counted .processes) set (c .before .before .before .before .half-done .ensures) (c .before .before .before .if1 .left) in
     record {
       counted = counted;
       few = omega (arith, l .inv .2 .1, c .before .before .before .before .before .loop-test .taken);
@@ -71,7 +72,7 @@ loop-again c =
       omega (arith, c .before .before .before .slots .given, l .inv .1),
       closing-next _ _ _ _ _ _ _ _ _ (l .inv .2) (firstCalls (s .args .file .now) (s .args .shape .processes) (s .args .shape .calls))
           (calls-aimed (s .args .file .now) (s .args .shape .processes) (s .args .shape .calls) (s .pre .processes)) (trailingZeros 8 (c .before .before .before .before .before .before .before .before .before .half-done .result)) _ _ _
-          (next-closed (l .after .processes) counted _ set) (run-open (l .after .processes) counted _ set (c .before .before .before .before .before .before .before .before .if1 .left)) (c .before .before .before .before .play .ensures),
+          (next-closed (benchIn (l .after) .processes) counted _ set) (run-open (benchIn (l .after) .processes) counted _ set (c .before .before .before .before .before .before .before .before .if1 .left)) (c .before .before .before .before .play .ensures),
     )
 
 same-length-3 : tie.Need-same-length-3 Inv-loop μ-loop

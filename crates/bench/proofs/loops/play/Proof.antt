@@ -5,15 +5,15 @@ use mathlib.Core.List.{List}
 use borrow.Author.Needs.{needs}
 use lib.ListN.{length, getD}
 use native.Mathlib.Omega.{arith}
-use Rattle.bench.specs.Moment.{queueOf}
-use Rattle.bench.specs.State.{processAt}
-use Rattle.bench.specs.Turn.{ready}
-use Rattle.bench.specs.declared.Bench.{Bench}
-use Rattle.bench.specs.declared.Process.{Process}
+use Rattle.runs.specs.Moment.{queueOf}
+use Rattle.runs.specs.Turn.{ready}
 use Rattle.bench.proofs.RunLaws.{Played, played-start, played-next, played-all, along-length}
-use Rattle.bench.proofs.LayoutLaws.{back-counted, queue-counted, turn-idles, turn-acts, moved-more, moved-gone, moves-become}
-use Rattle.bench.specs.inner.Layout.{stateIn, Counted, ToPlay}
-use Rattle.bench.proofs.TurnLaws.{calls-aimed}
+use Rattle.bench.proofs.LayoutLaws.{nobodyHeld, held-b2, held-resets, b2-counted, queue-counted, turn-idles, turn-acts, moved-more, moved-gone, moves-become}
+use Rattle.bench.specs.inner.Layout.{processIn, benchIn, stateIn, ToPlay}
+use Rattle.runs.specs.inner.Counted.{Counted}
+use Rattle.bench.specs.declared.Bench.{Bench as HeldBench}
+use Rattle.bench.specs.declared.Process.{Process as HeldProcess}
+use Rattle.runs.proofs.TurnLaws.{calls-aimed}
 use Rattle.runfile.specs.File.{firstCalls}
 use Rattle.runfile.specs.declared.Call.{Call}
 use Rattle.runfile.specs.declared.Shape.{Shape}
@@ -24,11 +24,11 @@ abbrev callsOf : List ℕ → Shape → List Call
 callsOf file shape = firstCalls file (shape .processes) (shape .calls)
 
 -- the queue of the step's call is one of the eight
-on-queue-of : (file : List ℕ) (shape : Shape) (schedule : List ℕ) {b₀ : Bench} {flat : List ℕ} → ToPlay shape schedule b₀ flat → (i : ℕ) → i < length schedule → (b : Bench) → Counted b
-    → (r : Process) → r ≡ ready (callsOf file shape) (b .steps) (processAt b (getD schedule i 0)) → (q : ℕ) → q ≡ queueOf (getD schedule i 0) (r .call) → q < 8
+on-queue-of : (file : List ℕ) (shape : Shape) (schedule : List ℕ) {b₀ : HeldBench} {flat : List ℕ} → ToPlay shape schedule b₀ flat → (i : ℕ) → i < length schedule → (b : HeldBench) → Counted (b .entries) (benchIn b)
+    → (r : HeldProcess) → processIn r ≡ ready (callsOf file shape) (b .steps) (processIn (getD (b .processes) (getD schedule i 0) nobodyHeld)) → (q : ℕ) → q ≡ queueOf (getD schedule i 0) (r .call) → q < 8
 on-queue-of file shape schedule pre i l b counted r e q d =
     let p = getD schedule i 0 in
-    let on = queue-counted (callsOf file shape) p b (processAt b p) r refl e (calls-aimed file (shape .processes) (shape .calls) (pre .processes)) (pre .below i l) counted in
+    let on = queue-counted (callsOf file shape) p b (getD (b .processes) p nobodyHeld) r refl e (b .entries) (calls-aimed file (shape .processes) (shape .calls) (pre .processes)) (pre .below i l) counted in
     omega (arith, d, on)
 
 abbrev Inv-loop : tie.InvT-loop
@@ -68,7 +68,7 @@ loop-again c =
       omega (arith, c .before .before .before .before .before .loop-test .taken),
       l .inv .1,
       played-next _ _ _ calls (s .args .schedule .now) _ _ (l .i) _ _ _ (calls-aimed (s .args .file .now) (s .args .shape .processes) (s .args .shape .calls) (s .pre .processes)) p _ _ _ (l .inv .2) (c .before .before .before .before .before .loop-test .taken) refl
-          (turn-idles calls p (l .after) (processAt (l .after) p) (c .before .before .ready .result) refl (c .before .before .ready .ensures) _ _ _ _ _ (sym (c .before .is-idle .ensures) ∙ c .if1 .taken) refl),
+          (turn-idles calls p (l .after) (getD (l .after .processes) p nobodyHeld) (c .before .before .ready .result) refl (c .before .before .ready .ensures) _ _ _ _ _ (sym (c .before .is-idle .ensures) ∙ c .if1 .taken) refl refl),
     )
 
 element-copy-out-before : tie.Need-element-copy-out-before Inv-loop μ-loop
@@ -84,11 +84,11 @@ moves-requires c κs =
     let p = getD (s .args .schedule .now) (l .i) 0 in
     let few = c .before .before .before .before .before .before .before .before .before .before .loop-test .taken in
     let counted = l .inv .2 .0 .counted in
-    let back = back-counted (callsOf (s .args .file .now) (s .args .shape)) p (l .after) (processAt (l .after) p) (c .before .before .before .before .before .before .before .ready .result) refl (c .before .before .before .before .before .before .before .ready .ensures) counted in (
+    let b2 = b2-counted (callsOf (s .args .file .now) (s .args .shape)) p (l .after) (getD (l .after .processes) p nobodyHeld) (c .before .before .before .before .before .before .before .ready .result) refl (c .before .before .before .before .before .before .before .ready .ensures) (l .after .entries) counted in (
       omega (arith, l .inv .2 .1, few, s .pre .few),
-      omega (arith, l .inv .2 .1, few, s .pre .few, back),
-      omega (arith, l .inv .2 .1, few, s .pre .few, counted .back (c .before .before .before .before .queue-of .result)),
-      omega (arith, l .inv .2 .1, few, s .pre .few, counted .resets (c .before .before .before .before .queue-of .result)),
+      omega (arith, l .inv .2 .1, few, s .pre .few, b2),
+      omega (arith, l .inv .2 .1, few, s .pre .few, held-b2 (l .after) _ counted (c .before .before .before .before .queue-of .result)),
+      omega (arith, l .inv .2 .1, few, s .pre .few, held-resets (l .after) _ counted (c .before .before .before .before .queue-of .result)),
       l .inv .1,
       on-queue-of (s .args .file .now) (s .args .shape) (s .args .schedule .now) (s .pre) (l .i) few (l .after) counted _ (c .before .before .before .before .before .before .before .ready .ensures) _ refl,
       s .pre .size,
@@ -104,7 +104,7 @@ element-set-from-process : tie.Need-element-set-from-process Inv-loop μ-loop
 element-set-from-process c = c .before .before .before .before .before .before .before .before .before .before .before .before .before .before .before .before .before .before .before .before .before .before .before .pre .below (c .before .before .before .before .before .before .before .before .before .before .before .before .before .before .before .before .before .before .loop .i) (c .before .before .before .before .before .before .before .before .before .before .before .before .before .before .before .before .before .loop-test .taken)
 
 add-after-2 : tie.Need-add-after-2 Inv-loop μ-loop
-add-after-2 c = omega (arith, c .before .before .before .before .before .before .before .before .before .before .before .before .before .before .before .before .before .before .before .loop .inv .2 .1, c .before .before .before .before .before .before .before .before .before .before .before .before .before .before .before .before .before .before .loop-test .taken, c .before .before .before .before .before .before .before .before .before .before .before .before .before .before .before .before .before .before .before .before .before .before .before .before .pre .few, c .before .before .before .before .before .before .before .before .before .before .before .before .before .before .before .before .before .before .before .loop .inv .2 .0 .counted .entries, moved-more _ _ _ _ _ _ _ _ _ _ _ _ _ (c .before .before .before .before .before .before .before .moves .ensures))
+add-after-2 c = omega (arith, c .before .before .before .before .before .before .before .before .before .before .before .before .before .before .before .before .before .before .before .loop .inv .2 .1, c .before .before .before .before .before .before .before .before .before .before .before .before .before .before .before .before .before .before .loop-test .taken, c .before .before .before .before .before .before .before .before .before .before .before .before .before .before .before .before .before .before .before .before .before .before .before .before .pre .few, c .before .before .before .before .before .before .before .before .before .before .before .before .before .before .before .before .before .before .before .loop .inv .2 .0 .counted .logged, moved-more _ _ _ _ _ _ _ _ _ _ _ _ _ (c .before .before .before .before .before .before .before .moves .ensures))
 
 add-after-3 : tie.Need-add-after-3 Inv-loop μ-loop
 add-after-3 c = omega (arith, c .before .before .before .before .before .before .before .before .before .before .before .before .before .before .before .before .before .before .before .before .loop .inv .2 .1, c .before .before .before .before .before .before .before .before .before .before .before .before .before .before .before .before .before .before .before .loop-test .taken, c .before .before .before .before .before .before .before .before .before .before .before .before .before .before .before .before .before .before .before .before .before .before .before .before .before .pre .few, c .before .before .before .before .before .before .before .before .before .before .before .before .before .before .before .before .before .before .before .before .loop .inv .2 .0 .counted .gone, moved-gone _ _ _ _ _ _ _ _ _ _ _ _ _ (c .before .before .before .before .before .before .before .before .moves .ensures))
@@ -121,8 +121,8 @@ loop-again-2 c =
       omega (arith, c .before .before .before .before .before .before .before .before .before .before .before .before .before .before .before .before .before .before .before .before .loop-test .taken),
       omega (arith, c .before .before .before .before .before .before .before .before .slots .given, l .inv .1),
       played-next _ _ _ calls (s .args .schedule .now) _ _ (l .i) _ _ _ (calls-aimed (s .args .file .now) (s .args .shape .processes) (s .args .shape .calls) (s .pre .processes)) p _ _ _ (l .inv .2) (c .before .before .before .before .before .before .before .before .before .before .before .before .before .before .before .before .before .before .before .before .loop-test .taken) refl
-          (turn-acts calls p (l .after) (processAt (l .after) p) (c .before .before .before .before .before .before .before .before .before .before .before .before .before .before .before .before .before .ready .result) refl (c .before .before .before .before .before .before .before .before .before .before .before .before .before .before .before .before .before .ready .ensures) _ _ _ _ _ _ _ (sym (c .before .before .before .before .before .before .before .before .before .before .before .before .before .before .before .before .is-idle .ensures) ∙ c .before .before .before .before .before .before .before .before .before .before .before .before .before .before .before .if1 .left)
-          (moves-become _ _ _ _ _ _ (l .after) _ _ _ _ _ _ _ (c .before .before .before .before .before .before .before .before .before .moves .ensures) (c .before .before .before .before .before .before .before .before .before .before .before .before .before .before .queue-of .ensures) refl refl refl)),
+          (turn-acts calls p (l .after) (getD (l .after .processes) p nobodyHeld) (c .before .before .before .before .before .before .before .before .before .before .before .before .before .before .before .before .before .ready .result) refl (c .before .before .before .before .before .before .before .before .before .before .before .before .before .before .before .before .before .ready .ensures) _ _ _ _ _ _ _ (sym (c .before .before .before .before .before .before .before .before .before .before .before .before .before .before .before .before .is-idle .ensures) ∙ c .before .before .before .before .before .before .before .before .before .before .before .before .before .before .before .if1 .left)
+          (moves-become _ _ _ _ (l .after) _ _ _ _ _ _ _ _ (c .before .before .before .before .before .before .before .before .before .moves .ensures) (c .before .before .before .before .before .before .before .before .before .before .before .before .before .before .queue-of .ensures) refl refl _ refl)),
     )
 
 same-length : tie.Need-same-length Inv-loop μ-loop

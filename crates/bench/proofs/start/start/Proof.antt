@@ -1,10 +1,27 @@
 -- `start::start` meets its contract.
+use mathlib.Core.Path.{refl}
+use mathlib.Core.Bool.{false}
+use mathlib.Core.List.{[], _∷_}
+use lib.ListN.{replicate}
 use borrow.Author.Needs.{needs}
 use Rattle.bench.proofs.start.start.Statement.{statement}
 use Rattle.bench.proofs.start.start.Tie as tie
 
 returns : tie.Need-returns
-returns c = rw (c .scripted8 .ensures, c .before .scripted7 .ensures, c .before .before .scripted6 .ensures, c .before .before .before .scripted5 .ensures, c .before .before .before .before .scripted4 .ensures, c .before .before .before .before .before .scripted3 .ensures, c .before .before .before .before .before .before .scripted2 .ensures, c .before .before .before .before .before .before .before .scripted .ensures, c .before .before .before .before .before .before .before .before .fresh .ensures)
+returns c = (
+  λ i. record {
+    queues = replicate 8 (c .before .before .before .before .before .before .before .before .fresh .ensures i);
+    processes =
+        c .before .before .before .before .before .before .before .scripted .ensures i ∷ c .before .before .before .before .before .before .scripted2 .ensures i
+        ∷ c .before .before .before .before .before .scripted3 .ensures i ∷ c .before .before .before .before .scripted4 .ensures i
+        ∷ c .before .before .before .scripted5 .ensures i ∷ c .before .before .scripted6 .ensures i ∷ c .before .scripted7 .ensures i
+        ∷ c .scripted8 .ensures i ∷ [];
+    steps = 0;
+    gone = 0;
+    refused = false;
+  },
+  refl,
+)
 
 pub start-spec : {M : Type 1} → statement M
 start-spec =

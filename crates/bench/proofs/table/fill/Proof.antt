@@ -4,16 +4,16 @@ use mathlib.Core.Path.{_≡_, refl, sym, _∙_}
 use borrow.Author.Needs.{needs}
 use lib.ListN.{length, take, length-set}
 use native.Mathlib.Omega.{arith}
-use Rattle.bench.proofs.TableLaws.{filled-next, filled}
-use Rattle.bench.specs.Run.{tableAt}
-use Rattle.bench.specs.inner.Layout.{slotsIn}
+use Rattle.bench.proofs.TableLaws.{held-row, filled-next, filled}
+use Rattle.runs.specs.Run.{tableAt}
+use Rattle.bench.specs.inner.Layout.{benchIn, slotsIn}
 use Rattle.base.specs.Lists.{listOf}
 use Rattle.bench.proofs.table.fill.Statement.{statement}
 use Rattle.bench.proofs.table.fill.Tie as tie
 
 abbrev Inv-loop : tie.InvT-loop
 Inv-loop table₀ processes size slots state k₀ table k =
-    (k ≤ 536) × (length table ≡ 536) × (take k table ≡ listOf k (tableAt processes state (slotsIn size slots)))
+    (k ≤ 536) × (length table ≡ 536) × (take k table ≡ listOf k (tableAt processes (benchIn state) (slotsIn size slots)))
 
 abbrev μ-loop : tie.MeasureT-loop
 μ-loop table₀ processes size slots state k₀ table k = 536 - k
@@ -42,8 +42,8 @@ loop-again c =
     let l = c .before .before .before .before .loop in (
       omega (arith, c .before .before .before .loop-test .taken),
       length-set {A = ℕ} (l .table) (l .k) (c .in-table .result) ∙ l .inv .1,
-      filled-next (tableAt (s .args .processes) (s .args .t4) (slotsIn (s .args .size) (s .args .slots .now))) (l .k) (l .table) (c .in-table .result)
-          (omega (arith, l .inv .1, c .before .before .before .loop-test .taken)) (l .inv .2) (c .in-table .ensures),
+      filled-next (tableAt (s .args .processes) (benchIn (s .args .t4)) (slotsIn (s .args .size) (s .args .slots .now))) (l .k) (l .table) (c .in-table .result)
+          (omega (arith, l .inv .1, c .before .before .before .loop-test .taken)) (l .inv .2) (c .in-table .ensures ∙ held-row (s .args .processes) (s .args .t4) (slotsIn (s .args .size) (s .args .slots .now)) (l .k)),
     )
 
 same-length : tie.Need-same-length Inv-loop μ-loop
@@ -53,7 +53,7 @@ returns : tie.Need-returns Inv-loop μ-loop
 returns c =
     let s = c .before .before .before .before in
     let l = c .before .loop in
-    filled (tableAt (s .args .processes) (s .args .t4) (slotsIn (s .args .size) (s .args .slots .now))) (l .k) 536 (l .table) (l .inv .1) (c .loop-test .left) (l .inv .0) (l .inv .2)
+    filled (tableAt (s .args .processes) (benchIn (s .args .t4)) (slotsIn (s .args .size) (s .args .slots .now))) (l .k) 536 (l .table) (l .inv .1) (c .loop-test .left) (l .inv .0) (l .inv .2)
 
 pub fill-spec : {M : Type 1} → statement M
 fill-spec =

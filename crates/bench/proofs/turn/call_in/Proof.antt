@@ -1,7 +1,7 @@
 -- `turn::call_in` meets its contract.
 use mathlib.Core.Path.{sym, _∙_}
 use borrow.Author.Needs.{needs}
-use Rattle.bench.proofs.TurnLaws.{call-there, past-calls}
+use Rattle.runs.proofs.TurnLaws.{call-there, past-calls}
 use Rattle.bench.proofs.turn.call_in.Statement.{statement}
 use Rattle.bench.proofs.turn.call_in.Tie as tie
 

@@ -1,5 +1,6 @@
 -- `turn::moves` meets its contract: each part of it is what one call ensures.
 use borrow.Author.Needs.{needs}
+use Rattle.bench.specs.inner.Layout.{endedIn}
 use Rattle.bench.proofs.LayoutLaws.{on-same}
 use Rattle.bench.proofs.turn.moves.Statement.{statement}
 use Rattle.bench.proofs.turn.moves.Tie as tie
@@ -9,7 +10,7 @@ returns c =
     let step = c .before .before .before .before .before .before .before .before .before .before .before .before .step-slots in
     record {
       step = step .result;
-      over = c .before .before .before .before .before .before .before .before .before .ended .result;
+      over = endedIn (c .before .before .before .before .before .before .before .before .before .ended .result);
       slots = on-same _ _ _ _ _ _ _ _ _ (c .before .before .before .before .before .before .before .before .before .before .before .before .before .before .queue-of .ensures) (step .ensures);
       ends = c .before .before .before .before .before .before .before .before .before .ended .ensures;
       bytes = c .before .before .before .before .before .before .before .keep .ensures;

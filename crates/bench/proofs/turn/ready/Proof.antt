@@ -1,7 +1,7 @@
 -- `turn::ready` meets its contract.
 use native.Mathlib.Omega.{arith}
 use borrow.Author.Needs.{needs}
-use Rattle.bench.proofs.TurnLaws.{begins}
+use Rattle.runs.proofs.TurnLaws.{begins}
 use Rattle.bench.proofs.turn.ready.Statement.{statement}
 use Rattle.bench.proofs.turn.ready.Tie as tie
 

@@ -1,0 +1,17 @@
+-- One step: its counts, and what it keeps of a call's kind.
+pub mod TurnLaws
+pub mod KindLaws
+-- A run: inductions over it, its end, its calls and its entries.
+pub mod Induction
+pub mod HalfLaws
+pub mod ClosingLaws
+pub mod BegunLaws
+pub mod EntriesLaws
+-- In every state that steps reach, word and stages are in range.
+pub mod Sound
+pub mod Reached
+pub mod Scripts
+pub mod States
+pub mod InRange
+-- Of the promise of `run_len`: the front part of the buffer.
+pub mod PromiseLaws

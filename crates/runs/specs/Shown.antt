@@ -1,0 +1,74 @@
+-- What is shown of every run of a good file, gone-round runs included.
+use Prim.Native.Nat.{ℕ, _+_, _-_, _≤_, _<_}
+use mathlib.Core.Path.{_≡_}
+use mathlib.Core.Bool.{true, false, cond}
+use mathlib.Core.List.{List, [], _∷_, map}
+use lib.Dec.{eqb}
+use lib.ListN.{length, getD, take}
+use Rattle.base.specs.Bytes.{Bytes}
+use Rattle.log.specs.Numbers.{push, bottomPop}
+use Rattle.log.specs.declared.Entry.{Entry}
+use Rattle.word.specs.Stages.{isIdle}
+use Rattle.queue.specs.Step.{loadedSlot, LoadsBelow, StoresBelow}
+use Rattle.runfile.specs.Check.{sum}
+use Rattle.runfile.specs.Encode.{InRanges}
+use Rattle.runfile.specs.File.{RunFile, script}
+use Rattle.runfile.specs.declared.Call.{Call}
+use Rattle.runfile.specs.declared.Call.the-variants.{Push, Pop, Take}
+use Rattle.runs.specs.Run.{closingSteps, closed, runOf}
+use Rattle.runs.specs.State.{Process, State, processAt}
+use Rattle.runs.specs.States.{StateOf}
+use Rattle.runs.specs.Turn.{ready, stepping}
+
+-- a run has at most 4,096 + 48 steps
+abbrev pub StepsMost : Type 0
+StepsMost = (f : RunFile) → InRanges f → closed f .bench .steps ≤ 4096 + closingSteps
+
+-- after the closing no process is half-done
+abbrev pub AllClosed : Type 0
+AllClosed = (f : RunFile) (p : ℕ) → isIdle (processAt (closed f .bench) p .stage) ≡ true
+
+-- whoever steps next, in the schedule or in the closing, loads and stores slots below C only
+pub record Touches (f : RunFile) (s : State) (p : ℕ) (r : Process) : Type 0 where
+  pub loads : LoadsBelow (f .size) (loadedSlot (r .stage))
+  pub stores : isIdle (r .stage) ≡ false → StoresBelow (f .size) (stepping (f .width) (f .size) p r s .store)
+
+abbrev pub BelowC : Type 0
+BelowC = (f : RunFile) → InRanges f → (s : State) → StateOf f s → (p : ℕ) → p < length (f .shares)
+    → Touches f s p (ready (f .calls) (s .bench .steps) (processAt (s .bench) p))
+
+-- number 9 never arises
+abbrev pub Never9 : Type 0
+Never9 = (file : List ℕ) → Bytes file → (room : ℕ) → runOf file room .number ≡ 9 → ⊥
+
+-- the entries of process p, in order
+abbrev pub entriesOf : ℕ → List Entry → List Entry
+entriesOf p [] = []
+entriesOf p (e ∷ es) = cond (eqb (e .process) p) (e ∷ entriesOf p es) (entriesOf p es)
+
+-- the call that an entry tells of
+abbrev pub callIn : Entry → Call
+callIn e = cond (eqb (e .kind) push) (Push (e .node)) (cond (eqb (e .kind) bottomPop) Pop (Take (e .queue)))
+
+-- the calls of process p that a log tells of
+abbrev pub callsBy : ℕ → List Entry → List Call
+callsBy p log = map callIn (entriesOf p log)
+
+-- where the script of process p starts in the calls of the file
+abbrev pub firstCall : RunFile → ℕ → ℕ
+firstCall f p = sum (take p (f .shares))
+
+-- how many calls of its script process p has begun
+abbrev pub callsBegun : RunFile → State → ℕ → ℕ
+callsBegun f s p = processAt (s .bench) p .next - firstCall f p
+
+-- every call that was begun is in the log once: of each process below P, the entries tell in order of the calls of its script that
+-- it has begun, and no other process has an entry
+pub record BegunOnce (f : RunFile) (s : State) : Type 0 where
+  pub told : (p : ℕ) → p < length (f .shares) → map callIn (entriesOf p (s .log)) ≡ take (callsBegun f s p) (script f p)
+  pub place : (p : ℕ) → p < length (f .shares) → processAt (s .bench) p .next ≡ firstCall f p + callsBegun f s p
+  pub within : (p : ℕ) → p < length (f .shares) → callsBegun f s p ≤ getD (f .shares) p 0
+  pub below : (k : ℕ) (d : Entry) → k < length (s .log) → getD (s .log) k d .process < length (f .shares)
+
+abbrev pub EachBegunOnce : Type 0
+EachBegunOnce = (f : RunFile) → InRanges f → BegunOnce f (closed f)

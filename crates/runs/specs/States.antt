@@ -1,0 +1,18 @@
+-- The states that a run goes through.
+use Prim.Native.Nat.{ℕ, _≤_}
+use lib.ListN.{length, take}
+use Rattle.runfile.specs.File.{RunFile}
+use Rattle.runs.specs.State.{State, start}
+use Rattle.runs.specs.Run.{play, close, closingSteps}
+
+-- the state after the first k steps of the schedule, and after the first k of the closing
+abbrev pub scheduled : RunFile → ℕ → State
+scheduled f k = play (f .width) (f .size) (f .calls) (take k (f .schedule)) (start f)
+
+abbrev pub closing : RunFile → ℕ → State
+closing f k = close (f .width) (f .size) k (play (f .width) (f .size) (f .calls) (f .schedule) (start f))
+
+-- the states of the run of f
+pub data StateOf (f : RunFile) : State → Type 0 where
+  at-schedule : (k : ℕ) → k ≤ length (f .schedule) → StateOf f (scheduled f k)
+  at-closing : (k : ℕ) → k ≤ closingSteps → StateOf f (closing f k)

@@ -1,0 +1,151 @@
+-- The worked runs K1 to K8 and K13, computed on the definitions: bytes in; entries, counts and the first queue's row of the table out.
+use Prim.Native.Nat.{ℕ, _-_}
+use mathlib.Core.Path.{_≡_, refl}
+use mathlib.Core.List.{List, [], _∷_, map}
+use lib.ListN.{length, getD, take, replicate}
+use Rattle.log.specs.Decode.{logLength}
+use Rattle.log.specs.Encode.{logBytes}
+use Rattle.log.specs.declared.Entry.{Entry}
+use Rattle.runs.specs.Run.{Outcome, runOf}
+
+pub record Case : Type 0 where
+  pub file : List ℕ
+  pub entries : List Entry
+  pub steps : ℕ
+  pub gone : ℕ
+  -- bottom, top, tag and the first four slots of queue 0
+  pub row : List ℕ
+
+-- process, queue, kind, result, node, start, end, moment
+abbrev line : ℕ → ℕ → ℕ → ℕ → ℕ → ℕ → ℕ → ℕ → Entry
+line process queue kind result node start end moment =
+    record { process = process; queue = queue; kind = kind; result = result; node = node; start = start; end = end; moment = moment }
+
+abbrev pub K1 : Case
+K1 = record {
+  file = 2 ∷ 8 ∷ 4 ∷ 2 ∷ 2 ∷ 1 ∷ 0 ∷ 3 ∷ 1 ∷ 0 ∷ 7 ∷ 2 ∷ 0 ∷ 0 ∷ 3 ∷ 0 ∷ 0 ∷ 0 ∷ 9 ∷ 0 ∷ 0 ∷ 0 ∷ 1 ∷ 1 ∷ 1 ∷ 0 ∷ 0 ∷ 1 ∷ [];
+  entries =
+      line 0 0 1 1 7 0 2 4 ∷
+      line 1 0 3 1 7 3 8 14 ∷
+      line 0 0 2 0 0 6 12 15 ∷
+      [];
+  steps = 13;
+  gone = 0;
+  row = 0 ∷ 0 ∷ 1 ∷ 7 ∷ 0 ∷ 0 ∷ 0 ∷ [];
+}
+
+abbrev pub K2 : Case
+K2 = record {
+  file = 2 ∷ 8 ∷ 4 ∷ 2 ∷ 2 ∷ 1 ∷ 0 ∷ 3 ∷ 1 ∷ 0 ∷ 7 ∷ 2 ∷ 0 ∷ 0 ∷ 3 ∷ 0 ∷ 0 ∷ 0 ∷ 13 ∷ 0 ∷ 0 ∷ 0 ∷ 1 ∷ 1 ∷ 1 ∷ 0 ∷ 0 ∷ 0 ∷ 0 ∷ 0 ∷ 0 ∷ 1 ∷ [];
+  entries =
+      line 0 0 1 1 7 0 2 4 ∷
+      line 0 0 2 1 7 6 11 14 ∷
+      line 1 0 3 0 0 3 12 65535 ∷
+      [];
+  steps = 13;
+  gone = 0;
+  row = 0 ∷ 0 ∷ 1 ∷ 7 ∷ 0 ∷ 0 ∷ 0 ∷ [];
+}
+
+abbrev pub K3 : Case
+K3 = record {
+  file = 2 ∷ 8 ∷ 4 ∷ 3 ∷ 2 ∷ 1 ∷ 1 ∷ 0 ∷ 4 ∷ 1 ∷ 0 ∷ 5 ∷ 1 ∷ 0 ∷ 6 ∷ 3 ∷ 0 ∷ 0 ∷ 3 ∷ 0 ∷ 0 ∷ 0 ∷ 14 ∷ 0 ∷ 0 ∷ 0 ∷ 0 ∷ 0 ∷ 0 ∷ 1 ∷ 1 ∷ 1 ∷ 2 ∷ 2 ∷ 2 ∷ 2 ∷ 1 ∷ [];
+  entries =
+      line 0 0 1 1 5 0 2 4 ∷
+      line 0 0 1 1 6 3 5 10 ∷
+      line 2 0 3 1 5 9 12 24 ∷
+      line 1 0 3 0 0 6 13 65535 ∷
+      [];
+  steps = 14;
+  gone = 0;
+  row = 2 ∷ 1 ∷ 0 ∷ 5 ∷ 6 ∷ 0 ∷ 0 ∷ [];
+}
+
+abbrev pub K4 : Case
+K4 = record {
+  file = 2 ∷ 1 ∷ 4 ∷ 2 ∷ 5 ∷ 1 ∷ 0 ∷ 6 ∷ 1 ∷ 0 ∷ 1 ∷ 2 ∷ 0 ∷ 0 ∷ 1 ∷ 0 ∷ 2 ∷ 2 ∷ 0 ∷ 0 ∷ 1 ∷ 0 ∷ 3 ∷ 3 ∷ 0 ∷ 0 ∷ 0 ∷ 25 ∷ 0 ∷ 0 ∷ 0 ∷ 1 ∷ 1 ∷ 1 ∷ 0 ∷ 0 ∷ 0 ∷ 0 ∷ 0 ∷ 0 ∷ 0 ∷ 0 ∷ 0 ∷ 0 ∷ 0 ∷ 0 ∷ 0 ∷ 0 ∷ 0 ∷ 0 ∷ 0 ∷ 0 ∷ 1 ∷ [];
+  entries =
+      line 0 0 1 1 1 0 2 4 ∷
+      line 0 0 2 1 1 6 11 14 ∷
+      line 0 0 1 1 2 12 14 28 ∷
+      line 0 0 2 1 2 15 20 32 ∷
+      line 0 0 1 1 3 21 23 46 ∷
+      line 1 0 3 1 1 3 24 48 ∷
+      [];
+  steps = 25;
+  gone = 1;
+  row = 1 ∷ 1 ∷ 0 ∷ 3 ∷ 0 ∷ 0 ∷ 0 ∷ [];
+}
+
+abbrev pub K5 : Case
+K5 = record {
+  file = 2 ∷ 2 ∷ 4 ∷ 2 ∷ 5 ∷ 1 ∷ 0 ∷ 6 ∷ 1 ∷ 0 ∷ 1 ∷ 2 ∷ 0 ∷ 0 ∷ 1 ∷ 0 ∷ 2 ∷ 2 ∷ 0 ∷ 0 ∷ 1 ∷ 0 ∷ 3 ∷ 3 ∷ 0 ∷ 0 ∷ 0 ∷ 25 ∷ 0 ∷ 0 ∷ 0 ∷ 1 ∷ 1 ∷ 1 ∷ 0 ∷ 0 ∷ 0 ∷ 0 ∷ 0 ∷ 0 ∷ 0 ∷ 0 ∷ 0 ∷ 0 ∷ 0 ∷ 0 ∷ 0 ∷ 0 ∷ 0 ∷ 0 ∷ 0 ∷ 0 ∷ 1 ∷ [];
+  entries =
+      line 0 0 1 1 1 0 2 4 ∷
+      line 0 0 2 1 1 6 11 14 ∷
+      line 0 0 1 1 2 12 14 28 ∷
+      line 0 0 2 1 2 15 20 32 ∷
+      line 0 0 1 1 3 21 23 46 ∷
+      line 1 0 3 0 0 3 24 65535 ∷
+      [];
+  steps = 25;
+  gone = 0;
+  row = 1 ∷ 0 ∷ 2 ∷ 3 ∷ 0 ∷ 0 ∷ 0 ∷ [];
+}
+
+abbrev pub K6 : Case
+K6 = record {
+  file = 2 ∷ 8 ∷ 1 ∷ 1 ∷ 2 ∷ 0 ∷ 2 ∷ 1 ∷ 0 ∷ 7 ∷ 1 ∷ 0 ∷ 8 ∷ 0 ∷ 4 ∷ 0 ∷ 0 ∷ 0 ∷ 0 ∷ [];
+  entries =
+      line 0 0 1 1 7 0 2 4 ∷
+      line 0 0 1 2 8 3 3 65535 ∷
+      [];
+  steps = 4;
+  gone = 0;
+  row = 1 ∷ 0 ∷ 0 ∷ 7 ∷ 0 ∷ 0 ∷ 0 ∷ [];
+}
+
+abbrev pub K7 : Case
+K7 = record {
+  file = 2 ∷ 8 ∷ 4 ∷ 1 ∷ 1 ∷ 0 ∷ 1 ∷ 2 ∷ 0 ∷ 0 ∷ 0 ∷ 1 ∷ 0 ∷ [];
+  entries =
+      line 0 0 2 0 0 0 0 0 ∷
+      [];
+  steps = 1;
+  gone = 0;
+  row = 0 ∷ 0 ∷ 0 ∷ 0 ∷ 0 ∷ 0 ∷ 0 ∷ [];
+}
+
+abbrev pub K8 : Case
+K8 = record {
+  file = 2 ∷ 8 ∷ 4 ∷ 1 ∷ 0 ∷ 0 ∷ 0 ∷ 0 ∷ 0 ∷ [];
+  entries = [];
+  steps = 0;
+  gone = 0;
+  row = 0 ∷ 0 ∷ 0 ∷ 0 ∷ 0 ∷ 0 ∷ 0 ∷ [];
+}
+
+abbrev pub runs : List Case
+runs = K1 ∷ K2 ∷ K3 ∷ K4 ∷ K5 ∷ K6 ∷ K7 ∷ K8 ∷ []
+
+-- a buffer that is just long enough for all calls of the file, which all end in these runs
+abbrev pub room : Case → ℕ
+room k = logLength (length (k .entries))
+
+-- number, entries, steps and gone-round takes; the row; the log's bytes
+abbrev shown : Outcome → List (List ℕ)
+shown o = (o .number ∷ o .entries ∷ o .steps ∷ o .gone ∷ []) ∷ take 7 (o .table) ∷ o .log ∷ []
+
+abbrev expected : Case → List (List ℕ)
+expected k =
+    (0 ∷ length (k .entries) ∷ k .steps ∷ k .gone ∷ []) ∷ k .row
+    ∷ logBytes (record { P = getD (k .file) 3 0; C = getD (k .file) 2 0; entries = k .entries }) ∷ []
+
+pub worked : map (λ (k : Case). shown (runOf (k .file) (room k))) runs ≡ map expected runs
+unfolding runOf logBytes
+worked = refl
+
+-- K13: a buffer one byte short
+pub K13 : map (λ (k : Case). shown (runOf (k .file) (room k - 1))) runs ≡ map (λ (k : Case). (8 ∷ 0 ∷ 0 ∷ 0 ∷ []) ∷ replicate 7 0 ∷ [] ∷ []) runs
+unfolding runOf
+K13 = refl

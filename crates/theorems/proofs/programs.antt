@@ -1,0 +1,2 @@
+pub mod RunThenJudge
+pub mod ShutOut
