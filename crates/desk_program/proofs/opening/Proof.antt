@@ -4,7 +4,7 @@ use Prim.Native.Nat.{_≤_}
 use borrow.Author.Needs.{needs}
 use lib.ListN.{length, take}
 use lib.Seq.{length-take-le}
-use Rattle.desk.proofs.LineLaws.{size-most}
+use Rattle.lines.proofs.LineLaws.{size-most}
 use Rattle.desk_program.proofs.opening.Statement.{statement}
 use Rattle.desk_program.proofs.opening.Tie as tie
 
