@@ -1,7 +1,7 @@
 /* The bench and the judge, for a host program in C. Link with libscarpgoblet.a (x86-64): `rt staticlib scarpgoblet` makes it, in
  * target/staticlib/.
  *
- * All three functions answer for any bytes and any lengths, and keep nothing between calls. No pointer may be null, not even where
+ * All four functions answer for any bytes and any lengths, and keep nothing between calls. No pointer may be null, not even where
  * its length is 0. */
 #ifndef SCARPGOBLET_H
 #define SCARPGOBLET_H
@@ -38,6 +38,25 @@ uint32_t scarpgoblet_judge(const uint8_t *log, size_t length);
 
 /* The entry at fault, from 0, where the number is 14 to 19; else 0. */
 uint32_t scarpgoblet_judge_entry(const uint8_t *log, size_t length);
+
+/* A reply of scarpgoblet_rack has this many bytes, and a rack at most 65,535 files. */
+#define SCARPGOBLET_REPLY 8
+
+/* Runs and judges the files of the rack of `rack_len` bytes at `rack`: a count in two bytes, then each file after its length in two
+ * bytes, high byte first, and nothing after them. No two of `rack`, `log` and `replies` may overlap. Gives
+ *
+ * 0:  every file has its reply, a refused one too;
+ * 21: the count or a length runs past the end of the rack, or bytes remain after the last file;
+ * 22: the `replies_len` bytes at `replies` are fewer than 8 * the count.
+ *
+ * 21 is asked before 22, both before any file is run, and both leave every byte at `log` and `replies` as it was. With 0 the reply to
+ * file k, from 0, stands at replies[8 * k]: its number as in report[0] of scarpgoblet_run (one byte), its entries, steps and gone-round
+ * takes (two bytes each, high byte first), and the judge's number of its log (one byte, 0 for a refused file). The bytes after the last
+ * reply stay as they were.
+ *
+ * Each file in turn uses the whole of the `log_len` bytes at `log`, so that they then hold what single calls of scarpgoblet_run, file
+ * after file, leave there; a file for which they are too few has 8 in its reply. */
+uint32_t scarpgoblet_rack(const uint8_t *rack, size_t rack_len, uint8_t *log, size_t log_len, uint8_t *replies, size_t replies_len);
 
 #ifdef __cplusplus
 }
