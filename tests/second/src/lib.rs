@@ -1,9 +1,10 @@
-//! The bench and the judge a second time, written from the request's page alone.
+//! The bench, the judge and the rack a second time, written from the request's page alone.
 
 pub mod bench;
 pub mod judge;
 pub mod log;
 pub mod queue;
+pub mod rack;
 pub mod runfile;
 mod seen;
 
@@ -14,6 +15,7 @@ pub const ROW: usize = 67;
 pub const TABLE: usize = 8 * ROW;
 
 pub use judge::judge;
+pub use rack::rack;
 
 /// Runs a file: gives the length of the part of `log` that was written. The report is the number,
 /// the entries, the steps and the gone-round takes.

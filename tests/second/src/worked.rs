@@ -1,4 +1,4 @@
-//! The worked runs K1 to K14, typed from the page, against this side alone.
+//! The worked runs K1 to K14 and the worked racks, typed from the pages, against this side alone.
 
 use second::log::{length, Entry, HEAD, MOST, WIDTH};
 use std::fmt::Write;
@@ -60,7 +60,7 @@ pub fn differences() -> Vec<String> {
         let found = output(&file, length(MOST));
         (name, wanted.to_string(), found)
     });
-    let all = outputs.chain(refusals()).chain(logs());
+    let all = outputs.chain(refusals()).chain(logs()).chain(racks());
     all.filter(|(_, wanted, found)| wanted != found)
         .map(|(name, wanted, found)| format!("{name}: wanted\n{wanted}found\n{found}"))
         .collect()
@@ -149,6 +149,55 @@ fn logs() -> Vec<(&'static str, String, String)> {
         ("K4, entry", "17 at entry 5\n".into(), judged(&k4_log)),
         ("K14", "19 at entry 1\n".into(), judged(&k14)),
     ]
+}
+
+fn racks() -> Vec<(&'static str, String, String)> {
+    let k8 = [&[0, 1, 0, 9][..], &file(&K8, &[])].concat();
+    let k8_and_a_byte = [&k8[..], &[0]].concat();
+    let numbers: [(&str, &[u8], usize, u32); 8] = [
+        ("no file", &[0, 0], 0, 0),
+        ("no byte", &[], 0, 21),
+        ("half a count", &[0], 0, 21),
+        ("no file and a byte", &[0, 0, 5], 0, 21),
+        ("no length", &[0, 1], 0, 21),
+        ("a file cut off", &[0, 1, 0, 3, 2, 8], 8, 21),
+        ("K8, 7 reply bytes", &k8, 7, 22),
+        ("K8 and a byte, 7 reply bytes", &k8_and_a_byte, 7, 21),
+    ];
+    let unwritten = numbers.into_iter().map(|(name, rack, space, number)| {
+        let wanted = (number, vec![238; 80], vec![221; space]);
+        (name, format!("{wanted:?}\n"), racked(rack, 80, space))
+    });
+    unwritten.chain([four_files()]).collect()
+}
+
+/// K1, K4, an empty file and K8: K8's log stands over the front of K4's.
+fn four_files() -> (&'static str, String, String) {
+    let k1 = file(&K1, &[0, 0, 0, 1, 1, 1, 0, 0, 1]);
+    let (k4, k8) = (k4_with(1), file(&K8, &[]));
+    let lengths = [[0, 28], [0, 53], [0, 0], [0, 9]];
+    let files = [&k1[..], &k4, &[], &k8];
+    let counted = lengths.iter().zip(files);
+    let counted = counted.flat_map(|(length, file)| length.iter().chain(file).copied());
+    let rack: Vec<u8> = [0, 4].into_iter().chain(counted).collect();
+    let replies = [
+        0, 0, 3, 0, 13, 0, 0, 0, 0, 0, 6, 0, 25, 0, 1, 17, 1, 0, 0, 0, 0, 0, 0, 0, 0, 0, 0, 0, 0,
+        0, 0, 0, 221, 221,
+    ];
+    let log = [
+        2, 1, 4, 0, 0, 0, 0, 1, 1, 0, 1, 0, 0, 0, 2, 0, 4, 0, 0, 2, 1, 0, 1, 0, 6, 0, 11, 0, 14, 0,
+        0, 1, 1, 0, 2, 0, 12, 0, 14, 0, 28, 0, 0, 2, 1, 0, 2, 0, 15, 0, 20, 0, 32, 0, 0, 1, 1, 0,
+        3, 0, 21, 0, 23, 0, 46, 1, 0, 3, 1, 0, 1, 0, 3, 0, 24, 0, 48, 238, 238, 238,
+    ];
+    let wanted = format!("{:?}\n", (0, log, replies));
+    ("K1, K4, an empty file, K8", wanted, racked(&rack, 80, 34))
+}
+
+/// The number, and both buffers after the call.
+fn racked(rack: &[u8], room: usize, space: usize) -> String {
+    let (mut log, mut replies) = (vec![238; room], vec![221; space]);
+    let number = second::rack(rack, &mut log, &mut replies);
+    format!("{:?}\n", (number, log, replies))
 }
 
 /// What the program prints for a file.
