@@ -1,6 +1,6 @@
 /* Replies to the cases on standard input, one line each, by the library. A case is a letter and what it is about, lengths in
- * four bytes, high byte first: R, the length of the buffer for the log, a run file's length, the run file; or J, a log's length, the
- * log. Every file, log and buffer is given just its own bytes of memory, so that a memory checker sees a touch beyond them. */
+ * four bytes, high byte first: R, the length of the buffer for the log, a run file's length, the run file; J, a log's length, the
+ * log; or K, the lengths of the buffers for the logs and the replies, a rack's length, the rack. Every file, log, rack and buffer is given just its own bytes of memory, so that a memory checker sees a touch beyond them. */
 #include <stdio.h>
 #include <stdlib.h>
 #include <string.h>
@@ -69,6 +69,15 @@ static uint8_t before(size_t position)
     return (uint8_t)(position * 37 + 165);
 }
 
+static uint8_t *filled_room_for(size_t n)
+{
+    uint8_t *room = room_for(n);
+    for (size_t i = 0; i < n; i++) {
+        room[i] = before(i);
+    }
+    return room;
+}
+
 static void print_hex(const uint8_t *bytes, size_t n)
 {
     if (n == 0) {
@@ -101,10 +110,7 @@ static void print_table(const uint16_t *table)
 
 static void print_run(const uint8_t *file, size_t file_len, size_t room)
 {
-    uint8_t *log = room_for(room);
-    for (size_t i = 0; i < room; i++) {
-        log[i] = before(i);
-    }
+    uint8_t *log = filled_room_for(room);
     uint16_t report[4];
     uint16_t *table = (uint16_t *)room_for(TABLE * sizeof *table);
     memset(report, 0xA5, sizeof report);
@@ -122,14 +128,29 @@ static void print_run(const uint8_t *file, size_t file_len, size_t room)
     free(log);
 }
 
+static void print_rack(const uint8_t *rack, size_t rack_len, size_t room, size_t space)
+{
+    uint8_t *log = filled_room_for(room);
+    uint8_t *replies = filled_room_for(space);
+    printf("rack %u ", (unsigned)scarpgoblet_rack(rack, rack_len, log, room, replies, space));
+    print_hex(replies, space);
+    putchar(' ');
+    print_hex(log, room);
+    free(replies);
+    free(log);
+}
+
 static void reply(int letter)
 {
-    size_t room = letter == 'R' ? get_number() : 0;
+    size_t room = letter == 'J' ? 0 : get_number();
+    size_t space = letter == 'K' ? get_number() : 0;
     size_t n;
     uint8_t *bytes = get_counted(&n);
     uint8_t *copy = copy_of(bytes, n);
     if (letter == 'R') {
         print_run(bytes, n, room);
+    } else if (letter == 'K') {
+        print_rack(bytes, n, room, space);
     } else {
         printf("judge %u %u", (unsigned)scarpgoblet_judge(bytes, n), (unsigned)scarpgoblet_judge_entry(bytes, n));
     }
@@ -143,7 +164,7 @@ static void reply(int letter)
 int main(void)
 {
     for (int letter = getchar(); letter != EOF; letter = getchar()) {
-        if (letter != 'R' && letter != 'J') {
+        if (letter != 'R' && letter != 'J' && letter != 'K') {
             give_up("no such case");
         }
         reply(letter);

@@ -12,6 +12,12 @@ pub enum Case {
     Judge {
         log: Vec<u8>,
     },
+    /// A rack, and the lengths of the buffers for the logs and for the replies.
+    Rack {
+        room: usize,
+        space: usize,
+        rack: Vec<u8>,
+    },
 }
 
 impl Case {
@@ -19,12 +25,18 @@ impl Case {
         match self {
             Case::Run { room, file } => {
                 out.write_all(b"R")?;
-                out.write_all(&(*room as u32).to_be_bytes())?;
+                write_number(*room, out)?;
                 write_counted(file, out)
             }
             Case::Judge { log } => {
                 out.write_all(b"J")?;
                 write_counted(log, out)
+            }
+            Case::Rack { room, space, rack } => {
+                out.write_all(b"K")?;
+                write_number(*room, out)?;
+                write_number(*space, out)?;
+                write_counted(rack, out)
             }
         }
     }
@@ -39,6 +51,11 @@ impl Case {
             b'J' => Some(Case::Judge {
                 log: take_counted(rest)?,
             }),
+            b'K' => Some(Case::Rack {
+                room: take_number(rest)?,
+                space: take_number(rest)?,
+                rack: take_counted(rest)?,
+            }),
             _ => None,
         }
     }
@@ -52,8 +69,12 @@ impl Case {
     }
 }
 
+fn write_number(number: usize, out: &mut impl Write) -> io::Result<()> {
+    out.write_all(&(number as u32).to_be_bytes())
+}
+
 fn write_counted(bytes: &[u8], out: &mut impl Write) -> io::Result<()> {
-    out.write_all(&(bytes.len() as u32).to_be_bytes())?;
+    write_number(bytes.len(), out)?;
     out.write_all(bytes)
 }
 

@@ -4,11 +4,15 @@ use crate::cases::Case;
 use crate::file_edits::{without_calls, without_calls_and_steps, without_process, without_steps};
 use crate::layout::Layout;
 use crate::log_edits::{earlier, gaps, whole_entries, without_entries, without_log_process};
+use crate::racks::packed;
 use second::log::{length, WIDTH};
+use second::rack::{files, REPLY};
 use std::ops::Range;
 
 pub enum Edit {
     Room(usize),
+    Space(usize),
+    WithoutFiles(Range<usize>),
     WithoutProcess(u8),
     WithoutCalls(Range<usize>),
     WithoutCallsAndSteps(Range<usize>),
@@ -33,6 +37,10 @@ pub fn edits(case: &Case) -> Vec<Edit> {
         Case::Judge { log } => {
             edits.extend(log_edits(log));
             log
+        }
+        Case::Rack { room, space, rack } => {
+            edits.extend(rack_edits(rack, *room, *space));
+            rack
         }
     };
     edits.extend(parts(bytes.len()).map(WithoutBytes));
@@ -71,6 +79,16 @@ fn file_edits(file: &[u8], room: usize) -> Vec<Edit> {
     edits
 }
 
+fn rack_edits(rack: &[u8], room: usize, space: usize) -> Vec<Edit> {
+    let mut edits = Vec::new();
+    let count = files(rack).map_or(0, |files| files.len());
+    edits.extend(parts(count).map(WithoutFiles));
+    let lower = |from: usize| [0, from / 2, from.saturating_sub(1)].into_iter();
+    edits.extend(lower(room).filter(|&other| other < room).map(Room));
+    edits.extend(lower(space).filter(|&other| other < space).map(Space));
+    edits
+}
+
 fn log_edits(log: &[u8]) -> Vec<Edit> {
     let mut edits = Vec::new();
     if let Some(count) = whole_entries(log) {
@@ -101,6 +119,16 @@ impl Edit {
             Case::Judge { log } => Some(Case::Judge {
                 log: self.apply_to_log(log)?,
             }),
+            Case::Rack { room, space, rack } => {
+                let (room, space) = match self {
+                    Room(other) => (*other, *space),
+                    Space(other) => (*room, *other),
+                    WithoutFiles(files) => (*room, space.saturating_sub(REPLY * files.len())),
+                    _ => (*room, *space),
+                };
+                let rack = self.apply_to_rack(rack)?;
+                Some(Case::Rack { room, space, rack })
+            }
         }
     }
 
@@ -121,6 +149,18 @@ impl Edit {
             WithoutEntries(entries) => without_entries(log, entries),
             Earlier(step, by) => earlier(log, *step, *by),
             _ => self.apply_to_bytes(log),
+        }
+    }
+
+    fn apply_to_rack(&self, rack: &[u8]) -> Option<Vec<u8>> {
+        match self {
+            Room(_) | Space(_) => Some(rack.to_vec()),
+            WithoutFiles(left_out) => {
+                let mut files = files(rack)?;
+                files.drain(left_out.clone());
+                Some(packed(&files))
+            }
+            _ => self.apply_to_bytes(rack),
         }
     }
 

@@ -1,4 +1,4 @@
-//! Compares the bench and the judge here with another program's, case by case.
+//! Compares the bench, the judge and the rack here with another program's, case by case.
 
 mod aimed;
 mod cases;
@@ -14,6 +14,7 @@ mod logs;
 mod make;
 mod mix;
 mod orders;
+mod racks;
 mod random;
 mod replies;
 mod schedules;
@@ -29,6 +30,7 @@ use std::process::ExitCode;
 
 const USAGE: &str = "second worked              checks the worked runs against this side
 second make COUNT SEED     writes the cases of a seed
+second racks COUNT SEED    writes the racks of a seed
 second orders              writes all orders of some small files
 second reply               reads cases, writes this side's replies
 second explain PROGRAM..   reads cases, shows the first to which the program replies otherwise";
@@ -38,10 +40,11 @@ fn main() -> ExitCode {
     let words: Vec<&str> = arguments.iter().map(String::as_str).collect();
     let done = match words[..] {
         ["worked"] => worked(),
-        ["make", count, seed] => match (count.parse(), seed.parse()) {
-            (Ok(count), Ok(seed)) => make(|maker| maker.of_seed(count, seed)),
-            _ => Err(io::Error::other("COUNT and SEED are numbers")),
-        },
+        ["make", count, seed] => {
+            numbers(count, seed).and_then(|(count, seed)| make(|maker| maker.of_seed(count, seed)))
+        }
+        ["racks", count, seed] => numbers(count, seed)
+            .and_then(|(count, seed)| make(|maker| maker.racks_of_seed(count, seed))),
         ["orders"] => make(orders::all_orders),
         ["reply"] => reply(),
         ["explain", _, ..] => explain(arguments[1..].to_vec()),
@@ -54,6 +57,13 @@ fn main() -> ExitCode {
             eprintln!("{error}");
             ExitCode::from(2)
         }
+    }
+}
+
+fn numbers(count: &str, seed: &str) -> io::Result<(usize, u64)> {
+    match (count.parse(), seed.parse()) {
+        (Ok(count), Ok(seed)) => Ok((count, seed)),
+        _ => Err(io::Error::other("COUNT and SEED are numbers")),
     }
 }
 

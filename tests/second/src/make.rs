@@ -7,6 +7,7 @@ use crate::files::good_file;
 use crate::invented::invented_log;
 use crate::logs::damaged_log;
 use crate::mix::Mix;
+use crate::racks::{damage_rack, good_rack, log_room, reply_room};
 use crate::random::Random;
 use second::log::{length, MOST};
 use std::io::{self, Write};
@@ -44,6 +45,29 @@ impl<W: Write> Maker<W> {
         Case::Judge { log }.write(&mut self.out)
     }
 
+    fn rack(&mut self, room: usize, space: usize, rack: Vec<u8>) -> io::Result<()> {
+        self.mix.add_rack(room, space, &rack);
+        Case::Rack { room, space, rack }.write(&mut self.out)
+    }
+
+    pub fn racks_of_seed(&mut self, count: usize, seed: u64) -> io::Result<()> {
+        let mut random = Random::new(seed);
+        for _ in 0..count {
+            self.one_rack(&mut random)?;
+        }
+        Ok(())
+    }
+
+    /// A damaged rack has the reply buffer of the good one, so that 21 and 22 also meet.
+    fn one_rack(&mut self, random: &mut Random) -> io::Result<()> {
+        let mut rack = good_rack(random);
+        let space = reply_room(random, &rack);
+        if random.one_in(4) {
+            damage_rack(random, &mut rack);
+        }
+        self.rack(log_room(random), space, rack)
+    }
+
     pub fn of_seed(&mut self, count: usize, seed: u64) -> io::Result<()> {
         let mut random = Random::new(seed);
         for _ in 0..count {
@@ -78,7 +102,7 @@ impl<W: Write> Maker<W> {
 }
 
 /// Lengths of a log buffer about the least that a file needs.
-fn room(random: &mut Random, calls: usize) -> usize {
+pub fn room(random: &mut Random, calls: usize) -> usize {
     let least = length(calls);
     match random.below(12) {
         0..=5 => least,
@@ -89,7 +113,7 @@ fn room(random: &mut Random, calls: usize) -> usize {
     }
 }
 
-fn damaged_file(random: &mut Random) -> Vec<u8> {
+pub fn damaged_file(random: &mut Random) -> Vec<u8> {
     let mut file = good_file(random).bytes();
     for _ in 0..random.pick(&[1, 1, 1, 2, 3]) {
         damage_file(random, &mut file);
@@ -111,7 +135,7 @@ fn log_of_a_run(random: &mut Random) -> Vec<u8> {
 }
 
 /// Bytes without a plan; small ones get further into the checks than large ones.
-fn any_bytes(random: &mut Random) -> Vec<u8> {
+pub fn any_bytes(random: &mut Random) -> Vec<u8> {
     let mut bytes = vec![2, random.byte() % 4, 1, 1];
     let below = random.pick(&[2, 4, 256]);
     let count = random.below(60);

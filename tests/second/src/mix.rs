@@ -2,6 +2,7 @@
 
 use crate::cases::Case;
 use second::log::{length, MOST};
+use second::rack::{files, REPLY};
 use std::fmt;
 
 #[derive(Default)]
@@ -9,6 +10,8 @@ pub struct Mix {
     runs: [usize; 10],
     judged: [usize; 20],
     gone_round: usize,
+    racks: [usize; 23],
+    files_of_racks: [usize; 10],
     /// A run without gone-round takes whose log the judge found fault with: there must be none.
     pub faulted: Option<Case>,
 }
@@ -36,6 +39,18 @@ impl Mix {
         }
         Some(log)
     }
+
+    pub fn add_rack(&mut self, room: usize, space: usize, rack: &[u8]) {
+        let (mut log, mut replies) = (vec![0; room], vec![0; space]);
+        let number = second::rack(rack, &mut log, &mut replies);
+        self.racks[number as usize] += 1;
+        if number == 0 {
+            let count = files(rack).map_or(0, |files| files.len());
+            for reply in replies.chunks_exact(REPLY).take(count) {
+                self.files_of_racks[usize::from(reply[0])] += 1;
+            }
+        }
+    }
 }
 
 impl fmt::Display for Mix {
@@ -43,7 +58,11 @@ impl fmt::Display for Mix {
         write!(out, "runs by number:")?;
         write_counts(&self.runs, out)?;
         write!(out, " (gone round {})\nlogs by number:", self.gone_round)?;
-        write_counts(&self.judged, out)
+        write_counts(&self.judged, out)?;
+        write!(out, "\nracks by number:")?;
+        write_counts(&self.racks, out)?;
+        write!(out, "; files of racks by number:")?;
+        write_counts(&self.files_of_racks, out)
     }
 }
 

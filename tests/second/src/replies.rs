@@ -11,12 +11,24 @@ pub fn reply(case: &Case) -> String {
             let (number, entry) = second::judge(log);
             format!("judge {number} {entry}")
         }
+        Case::Rack { room, space, rack } => rack_reply(*room, *space, rack),
     }
 }
 
 /// What a buffer's byte holds before the run: no two neighbours are alike.
 fn before(position: usize) -> u8 {
     (position * 37 + 165) as u8
+}
+
+fn rack_reply(room: usize, space: usize, rack: &[u8]) -> String {
+    let mut log: Vec<u8> = (0..room).map(before).collect();
+    let mut replies: Vec<u8> = (0..space).map(before).collect();
+    let number = second::rack(rack, &mut log, &mut replies);
+    let mut line = format!("rack {number} ");
+    write_hex(&replies, &mut line);
+    line.push(' ');
+    write_hex(&log, &mut line);
+    line
 }
 
 fn run_reply(room: usize, file: &[u8]) -> String {

@@ -3,6 +3,7 @@
 use crate::cases::Case;
 use crate::layout::{two_bytes, Layout};
 use second::log::{length, Entry, BOTTOM_POP, DONE, FULL, HEAD, NIL, PUSH, TOP_POP, WIDTH};
+use second::rack::files;
 
 pub fn show(case: &Case) -> String {
     match case {
@@ -22,6 +23,12 @@ pub fn show(case: &Case) -> String {
             };
             let count = log.len();
             format!("a log of {count} bytes\n{words}bytes: {}\n", spaced(log))
+        }
+        Case::Rack { room, space, rack } => {
+            let count = rack.len();
+            let buffers = format!("log buffer of {room}, reply buffer of {space}");
+            let words = rack_words(rack);
+            format!("a rack of {count} bytes, {buffers}\n{words}")
         }
     }
 }
@@ -59,6 +66,17 @@ fn byte_of_hex(pair: &[u8]) -> u8 {
 fn spaced(bytes: &[u8]) -> String {
     let words: Vec<String> = bytes.iter().map(u8::to_string).collect();
     words.join(" ")
+}
+
+fn rack_words(rack: &[u8]) -> String {
+    let Some(files) = files(rack) else {
+        return format!("no good rack, bytes: {}\n", spaced(rack));
+    };
+    let lines = files.iter().enumerate().map(|(index, file)| {
+        let count = file.len();
+        format!("file {index}, {count} bytes: {}\n", spaced(file))
+    });
+    lines.collect()
 }
 
 fn run_words(file: &[u8], layout: &Layout) -> String {
