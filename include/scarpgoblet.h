@@ -39,9 +39,6 @@ uint32_t scarpgoblet_judge(const uint8_t *log, size_t length);
 /* The entry at fault, from 0, where the number is 14 to 19; else 0. */
 uint32_t scarpgoblet_judge_entry(const uint8_t *log, size_t length);
 
-/* A reply of scarpgoblet_rack has this many bytes, and a rack at most 65,535 files. */
-#define SCARPGOBLET_REPLY 8
-
 /* Runs and judges the files of the rack of `rack_len` bytes at `rack`: a count in two bytes, then each file after its length in two
  * bytes, high byte first, and nothing after them. No two of `rack`, `log` and `replies` may overlap. Gives
  *

@@ -1,6 +1,7 @@
 /* Replies to the cases on standard input, one line each, by the library. A case is a letter and what it is about, lengths in
  * four bytes, high byte first: R, the length of the buffer for the log, a run file's length, the run file; J, a log's length, the
- * log; or K, the lengths of the buffers for the logs and the replies, a rack's length, the rack. Every file, log, rack and buffer is given just its own bytes of memory, so that a memory checker sees a touch beyond them. */
+ * log; or K, the lengths of the buffers for the logs and for the replies, a rack's length, the rack. Every file, log, rack and
+ * buffer is given just its own bytes of memory, so that a memory checker sees a touch beyond them. */
 #include <stdio.h>
 #include <stdlib.h>
 #include <string.h>

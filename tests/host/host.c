@@ -1,7 +1,9 @@
 /* Tries the library from C. Judges the logs of a file, one to a line, a name and its bytes in hexadecimal ("-" for none), and logs
  * that are too long to be written out: prints for each its name, the judge's number and the entry at fault. Then runs the run files of
  * a second file, a name, the room for the log, and bytes, and the longest: prints for each its name, how many bytes were written, the
- * report, and where it was run the judge's number and entry, the log and the queues that are not all 0. */
+ * report, and where it was run the judge's number and entry, the log and the queues that are not all 0. Then gives the library the
+ * racks of a third file, a name, the room for the logs, the room for the replies, and bytes: prints for each its name, the rack's number,
+ * and all bytes of both buffers; and racks of many files: prints whether both buffers are as single calls leave them. */
 #include <stdio.h>
 #include <stdlib.h>
 #include <string.h>
@@ -106,11 +108,11 @@ static void show_verdict(size_t wrote)
     printf(", judge %u %u", (unsigned)scarpgoblet_judge(lent.log, wrote), (unsigned)scarpgoblet_judge_entry(lent.log, wrote));
 }
 
-static void show_log(size_t wrote)
+static void show_bytes(const char *what, const uint8_t *bytes, size_t n)
 {
-    printf(", log ");
-    for (size_t i = 0; i < wrote; i++) {
-        printf("%02x", lent.log[i]);
+    printf(", %s %s", what, n == 0 ? "-" : "");
+    for (size_t i = 0; i < n; i++) {
+        printf("%02x", bytes[i]);
     }
 }
 
@@ -136,7 +138,7 @@ static void run_and_show(const char *name, size_t length, size_t room)
     size_t wrote = run(name, length, room);
     if (lent.report[0] == 0) {
         show_verdict(wrote);
-        show_log(wrote);
+        show_bytes("log", lent.log, wrote);
     }
     for (int q = 0; q < PROCESSES; q++) {
         show_queue(q);
@@ -208,6 +210,172 @@ static void long_files(void)
     printf(", table %s\n", longest_table() ? "right" : "wrong");
 }
 
+/* ---- the rack */
+
+enum { REPLY = 8, FILES_MOST = 65535, FILE_MOST = 65535, LENT_LOG = 238, LENT_REPLIES = 221 };
+
+static struct {
+    uint8_t bytes[1 << 18];
+    size_t length, files;
+} rack;
+
+struct buffers {
+    uint8_t log[SCARPGOBLET_LOG_MOST + 1];
+    uint8_t replies[REPLY * FILES_MOST + 1];
+};
+
+static struct buffers racked, single;
+
+static void lend(struct buffers *b)
+{
+    memset(b->log, LENT_LOG, sizeof b->log);
+    memset(b->replies, LENT_REPLIES, sizeof b->replies);
+}
+
+static void give_rack(const char *name, size_t room, size_t space)
+{
+    static uint8_t copy[sizeof rack.bytes];
+    memcpy(copy, rack.bytes, rack.length);
+    lend(&racked);
+    printf("%s rack %u", name, (unsigned)scarpgoblet_rack(rack.bytes, rack.length, racked.log, room, racked.replies, space));
+    if (memcmp(copy, rack.bytes, rack.length) != 0) {
+        printf(", THE RACK WAS WRITTEN TO");
+    }
+    if (racked.log[room] != LENT_LOG || racked.replies[space] != LENT_REPLIES) {
+        printf(", A BYTE AFTER A BUFFER WAS WRITTEN TO");
+    }
+}
+
+static void rack_and_show(const char *name, size_t room, size_t space)
+{
+    give_rack(name, room, space);
+    show_bytes("replies", racked.replies, space);
+    show_bytes("log", racked.log, room);
+    printf("\n");
+}
+
+/* Puts a count or a length at a place of the rack. */
+static void count_at(size_t at, size_t x)
+{
+    rack.bytes[at] = (uint8_t)(x / 256);
+    rack.bytes[at + 1] = (uint8_t)(x % 256);
+}
+
+static void empty_rack(void)
+{
+    rack.length = 2;
+    rack.files = 0;
+    count_at(0, 0);
+}
+
+static void add_file(const uint8_t *file, size_t n)
+{
+    if (sizeof rack.bytes - rack.length < n + 2) {
+        fprintf(stderr, "host: the rack has no room\n");
+        exit(2);
+    }
+    count_at(rack.length, n);
+    memcpy(rack.bytes + rack.length + 2, file, n);
+    rack.length += n + 2;
+    count_at(0, ++rack.files);
+}
+
+/* Runs and judges one file; gives where its reply ends. */
+static uint8_t *reply_singly(const uint8_t *file, size_t n, size_t room, uint8_t *reply)
+{
+    uint16_t report[4];
+    size_t wrote = scarpgoblet_run(file, n, single.log, room, report, lent.table);
+    *reply++ = (uint8_t)report[0];
+    for (int i = 1; i < 4; i++) {
+        *reply++ = (uint8_t)(report[i] / 256);
+        *reply++ = (uint8_t)(report[i] % 256);
+    }
+    *reply++ = report[0] == 0 ? (uint8_t)scarpgoblet_judge(single.log, wrote) : 0;
+    return reply;
+}
+
+static void all_singly(size_t room)
+{
+    lend(&single);
+    uint8_t *reply = single.replies;
+    for (size_t at = 2; at < rack.length;) {
+        size_t n = 256u * rack.bytes[at] + rack.bytes[at + 1];
+        reply = reply_singly(rack.bytes + at + 2, n, room, reply);
+        at += 2 + n;
+    }
+}
+
+/* Compares both buffers with what single calls left there, or with the bytes that were lent. */
+static void rack_and_compare(const char *name, size_t room, size_t space)
+{
+    give_rack(name, room, space);
+    printf(", replies %s", memcmp(racked.replies, single.replies, sizeof racked.replies) == 0 ? "right" : "wrong");
+    printf(", log %s\n", memcmp(racked.log, single.log, sizeof racked.log) == 0 ? "right" : "wrong");
+}
+
+/* The run files of the second file over and over, each time with the longest file after them. */
+static void fill_rack(FILE *runs, size_t files)
+{
+    char hex[1024];
+    empty_rack();
+    rewind(runs);
+    while (rack.files < files) {
+        if (fscanf(runs, "%*s %*u %1023s", hex) == 1) {
+            add_file(buffer, bytes_of(hex));
+        } else {
+            add_file(buffer, longest());
+            rewind(runs);
+        }
+    }
+}
+
+static void many_files(FILE *runs)
+{
+    const size_t replies = REPLY * 300;
+    fill_rack(runs, 300);
+    all_singly(SCARPGOBLET_LOG_MOST);
+    rack_and_compare("300-files", SCARPGOBLET_LOG_MOST, replies);
+    rack_and_compare("300-files-and-room-to-spare", SCARPGOBLET_LOG_MOST, replies + 5);
+    all_singly(40);
+    rack_and_compare("300-files-little-room", 40, replies);
+    lend(&single);
+    rack_and_compare("300-files-a-reply-byte-short", SCARPGOBLET_LOG_MOST, replies - 1);
+    rack.length--;
+    rack_and_compare("300-files-a-byte-short", SCARPGOBLET_LOG_MOST, replies);
+}
+
+static void fill_with_empty_files(size_t files)
+{
+    empty_rack();
+    while (rack.files < files) {
+        add_file(buffer, 0);
+    }
+}
+
+/* Eight times 8,192 is 0 in two bytes; 65,535 is the most that a count can be. */
+static void empty_files(void)
+{
+    fill_with_empty_files(8192);
+    lend(&single);
+    rack_and_compare("8192-empty-files-no-room", HEAD, 0);
+    fill_with_empty_files(FILES_MOST);
+    all_singly(HEAD);
+    rack_and_compare("65535-empty-files", HEAD, REPLY * FILES_MOST);
+}
+
+/* The longest good file, and K8 with as many bytes after it as a length can count. */
+static void long_files_of_a_rack(void)
+{
+    static uint8_t file[FILE_MOST];
+    empty_rack();
+    add_file(buffer, longest());
+    memcpy(file, buffer, idle(0));
+    add_file(file, FILE_MOST);
+    give_rack("longest-and-65535-bytes", SCARPGOBLET_LOG_MOST, REPLY * 2 + 1);
+    show_bytes("replies", racked.replies, REPLY * 2 + 1);
+    printf(", log %s\n", memcmp(buffer, racked.log, longest_log()) == 0 ? "right" : "wrong");
+}
+
 /* ---- */
 
 static FILE *opened(const char *name)
@@ -220,26 +388,56 @@ static FILE *opened(const char *name)
     return file;
 }
 
-int main(int argc, char **argv)
+static size_t at_most(size_t most, size_t n)
 {
-    char name[64];
-    char hex[1024];
-    size_t room;
-    if (argc != 3) {
-        fprintf(stderr, "usage: host LOGS RUNS\n");
-        return 2;
-    }
-    FILE *logs = opened(argv[1]);
+    return n <= most ? n : most;
+}
+
+static void judge_logs(FILE *logs)
+{
+    char name[64], hex[1024];
     while (fscanf(logs, "%63s %1023s", name, hex) == 2) {
         judge(name, bytes_of(hex));
     }
-    fclose(logs);
-    long_logs();
-    FILE *runs = opened(argv[2]);
+}
+
+static void run_files(FILE *runs)
+{
+    char name[64], hex[1024];
+    size_t room;
     while (fscanf(runs, "%63s %zu %1023s", name, &room, hex) == 3) {
-        run_and_show(name, bytes_of(hex), room <= SCARPGOBLET_LOG_MOST ? room : SCARPGOBLET_LOG_MOST);
+        run_and_show(name, bytes_of(hex), at_most(SCARPGOBLET_LOG_MOST, room));
     }
-    fclose(runs);
+}
+
+static void give_racks(FILE *racks)
+{
+    char name[64], hex[1024];
+    size_t room, space;
+    while (fscanf(racks, "%63s %zu %zu %1023s", name, &room, &space, hex) == 4) {
+        rack.length = bytes_of(hex);
+        memcpy(rack.bytes, buffer, rack.length);
+        rack_and_show(name, at_most(SCARPGOBLET_LOG_MOST, room), at_most(REPLY * FILES_MOST, space));
+    }
+}
+
+int main(int argc, char **argv)
+{
+    if (argc != 4) {
+        fprintf(stderr, "usage: host LOGS RUNS RACKS\n");
+        return 2;
+    }
+    FILE *logs = opened(argv[1]), *runs = opened(argv[2]), *racks = opened(argv[3]);
+    judge_logs(logs);
+    long_logs();
+    run_files(runs);
     long_files();
+    give_racks(racks);
+    many_files(runs);
+    empty_files();
+    long_files_of_a_rack();
+    fclose(logs);
+    fclose(runs);
+    fclose(racks);
     return 0;
 }
