@@ -1,5 +1,5 @@
-/* Times the proved bench and judge against a plain C bench and the second implementation, in Rust, on the same files and the same log, in
- * turn, in one run, and prints the ratios. */
+/* Times the proved bench and judge against a plain C bench and the second implementation, in Rust, on the same files and the same log, and
+ * one call of the rack against single calls, in turn, in one run, and prints the ratios. */
 #include "plain.h"
 #include "scarpgoblet.h"
 
@@ -13,13 +13,19 @@ typedef uint32_t judge_fn(const uint8_t *, size_t);
 run_fn second_run;
 judge_fn second_judge;
 
-enum { ROUNDS = 40, TIMES = 50, FILE_MOST = 4880, TABLE = 536 };
+enum { ROUNDS = 40, TIMES = 50, FILE_MOST = 4880, TABLE = 536, FILES = 300, REPLY = 8 };
 
 struct reply {
     uint8_t log[SCARPGOBLET_LOG_MOST];
     uint16_t report[4], table[TABLE];
     size_t length;
 };
+
+struct racked {
+    uint8_t log[SCARPGOBLET_LOG_MOST], replies[REPLY * FILES];
+};
+
+typedef void rack_fn(const uint8_t *, size_t, struct racked *);
 
 static uint32_t seed = 1;
 
@@ -105,9 +111,64 @@ static int compare_judges(const char *name, unsigned p, unsigned calls, unsigned
     return 0;
 }
 
+static size_t make_rack(uint8_t *rack) {
+    size_t at = 2;
+    rack[0] = FILES / 256, rack[1] = FILES % 256;
+    for (unsigned i = 0; i < FILES; i++) {
+        size_t len = make(rack + at + 2, 3, 10, 150);
+        rack[at] = (uint8_t)(len / 256), rack[at + 1] = (uint8_t)len;
+        at += 2 + len;
+    }
+    return at;
+}
+
+static void one_call(const uint8_t *rack, size_t len, struct racked *r) {
+    scarpgoblet_rack(rack, len, r->log, sizeof r->log, r->replies, sizeof r->replies);
+}
+
+/* What a host does without the rack, for the same eight bytes a file. */
+static void single_calls(const uint8_t *rack, size_t len, struct racked *r) {
+    uint16_t report[4], table[TABLE];
+    uint8_t *reply = r->replies;
+    for (size_t at = 2; at < len; reply += REPLY) {
+        size_t n = 256u * rack[at] + rack[at + 1];
+        size_t written = scarpgoblet_run(rack + at + 2, n, r->log, sizeof r->log, report, table);
+        reply[0] = (uint8_t)report[0];
+        reply[1] = (uint8_t)(report[1] / 256), reply[2] = (uint8_t)report[1];
+        reply[3] = (uint8_t)(report[2] / 256), reply[4] = (uint8_t)report[2];
+        reply[5] = (uint8_t)(report[3] / 256), reply[6] = (uint8_t)report[3];
+        reply[7] = report[0] == 0 ? (uint8_t)scarpgoblet_judge(r->log, written) : 0;
+        at += 2 + n;
+    }
+}
+
+static double rack_time(rack_fn *calls, const uint8_t *rack, size_t len) {
+    static struct racked r;
+    double start = now();
+    calls(rack, len, &r);
+    return now() - start;
+}
+
+static int compare_racks(void) {
+    static uint8_t rack[2 + FILES * (2 + FILE_MOST)];
+    static struct racked one, singles;
+    size_t len = make_rack(rack);
+    one_call(rack, len, &one), single_calls(rack, len, &singles);
+    if (memcmp(&one, &singles, sizeof one)) {
+        printf("rack: the replies differ\n");
+        return 1;
+    }
+    double x = 1e18, y = 1e18;
+    for (unsigned round = 0; round < ROUNDS; round++)
+        least(&x, rack_time(one_call, rack, len)), least(&y, rack_time(single_calls, rack, len));
+    printf("rack, %d of the morning's files: one call %.0f ns, %d single calls of run and judge %.0f ns, ratio %.2f\n", FILES, x, FILES, y, x / y);
+    return 0;
+}
+
 int main(void) {
     return compare_runs("a full file (8 processes, 32 calls each, 4,096 steps)", 8, 32, 4096)
         | compare_runs("a morning's file (3 processes, 10 calls each, 150 steps)", 3, 10, 150)
         | compare_judges("a full log (256 entries)", 8, 32, 4096)
-        | compare_judges("a morning's log (30 entries)", 3, 10, 150);
+        | compare_judges("a morning's log (30 entries)", 3, 10, 150)
+        | compare_racks();
 }
