@@ -9,10 +9,15 @@ use second::log::{length, WIDTH};
 use second::rack::{files, REPLY};
 use std::ops::Range;
 
+/// A rack of more files has too many edits of its files to try them.
+const FEW: usize = 4;
+
 pub enum Edit {
     Room(usize),
     Space(usize),
     WithoutFiles(Range<usize>),
+    /// An edit of one of a rack's files.
+    InFile(usize, Box<Edit>),
     WithoutProcess(u8),
     WithoutCalls(Range<usize>),
     WithoutCallsAndSteps(Range<usize>),
@@ -80,13 +85,22 @@ fn file_edits(file: &[u8], room: usize) -> Vec<Edit> {
 }
 
 fn rack_edits(rack: &[u8], room: usize, space: usize) -> Vec<Edit> {
-    let mut edits = Vec::new();
-    let count = files(rack).map_or(0, |files| files.len());
-    edits.extend(parts(count).map(WithoutFiles));
+    let files = files(rack).unwrap_or_default();
+    let mut edits: Vec<Edit> = parts(files.len()).map(WithoutFiles).collect();
     let lower = |from: usize| [0, from / 2, from.saturating_sub(1)].into_iter();
     edits.extend(lower(room).filter(|&other| other < room).map(Room));
     edits.extend(lower(space).filter(|&other| other < space).map(Space));
+    if files.len() <= FEW {
+        edits.extend(files.iter().enumerate().flat_map(in_file));
+    }
     edits
+}
+
+/// No edit of the room is among them: the rack's files share it.
+fn in_file((index, file): (usize, &&[u8])) -> Vec<Edit> {
+    let (room, file) = (0, file.to_vec());
+    let edits = edits(&Case::Run { room, file }).into_iter();
+    edits.map(|edit| InFile(index, Box::new(edit))).collect()
 }
 
 fn log_edits(log: &[u8]) -> Vec<Edit> {
@@ -158,6 +172,12 @@ impl Edit {
             WithoutFiles(left_out) => {
                 let mut files = files(rack)?;
                 files.drain(left_out.clone());
+                Some(packed(&files))
+            }
+            InFile(index, edit) => {
+                let mut files = files(rack)?;
+                let smaller = edit.apply_to_file(files[*index])?;
+                files[*index] = &smaller;
                 Some(packed(&files))
             }
             _ => self.apply_to_bytes(rack),

@@ -81,7 +81,7 @@ fn make(fill: impl FnOnce(&mut Maker<Out>) -> io::Result<()>) -> io::Result<bool
     let mut maker = Maker::new(io::BufWriter::new(io::stdout()));
     fill(&mut maker)?;
     let mix = maker.finish()?;
-    eprintln!("{mix}");
+    eprint!("{mix}");
     if let Some(case) = &mix.faulted {
         eprintln!("the judge finds fault with the log of a run without gone-round takes:");
         eprint!("{}", show::show(case));

@@ -55,20 +55,22 @@ impl Mix {
 
 impl fmt::Display for Mix {
     fn fmt(&self, out: &mut fmt::Formatter) -> fmt::Result {
-        write!(out, "runs by number:")?;
-        write_counts(&self.runs, out)?;
-        write!(out, " (gone round {})\nlogs by number:", self.gone_round)?;
-        write_counts(&self.judged, out)?;
-        write!(out, "\nracks by number:")?;
-        write_counts(&self.racks, out)?;
-        write!(out, "; files of racks by number:")?;
-        write_counts(&self.files_of_racks, out)
+        let gone_round = format!(" (gone round {})", self.gone_round);
+        write_counts("runs", &self.runs, &gone_round, out)?;
+        write_counts("logs", &self.judged, "", out)?;
+        write_counts("racks", &self.racks, "", out)?;
+        write_counts("files of racks", &self.files_of_racks, "", out)
     }
 }
 
-fn write_counts(counts: &[usize], out: &mut fmt::Formatter) -> fmt::Result {
+/// A line, where there is something to count.
+fn write_counts(what: &str, counts: &[usize], note: &str, out: &mut fmt::Formatter) -> fmt::Result {
+    if counts.iter().all(|&count| count == 0) {
+        return Ok(());
+    }
+    write!(out, "{what} by number:")?;
     for (number, count) in counts.iter().enumerate().filter(|(_, &count)| count > 0) {
         write!(out, " {number}:{count}")?;
     }
-    Ok(())
+    writeln!(out, "{note}")
 }
