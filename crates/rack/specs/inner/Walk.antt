@@ -1,0 +1,39 @@
+-- What the two passes over a rack say of it: whether it is one, and its files where it is.
+use Prim.Native.Nat.{ℕ, _*_, _≤_}
+use mathlib.Core.Path.{_≡_}
+use mathlib.Core.Bool.{Bool, true, false, cond}
+use mathlib.Core.List.{List, [], _++_}
+use lib.Dec.{eqb}
+use lib.ListN.{length, drop}
+use Rattle.base.specs.Bytes.{numberAt, putAt}
+use Rattle.rules.specs.Judge.{judgeOf}
+use Rattle.runs.specs.Promise.{bufferOf}
+use Rattle.runs.specs.Run.{runOf}
+use Rattle.rack.specs.Rack.{Split, bad, files, rackOf, replyLength, replyOf, repliesOf, logAfter}
+
+abbrev pub isRack : Split → Bool
+isRack bad = false
+isRack (files fs) = true
+
+abbrev pub filesOf : Split → List (List ℕ)
+filesOf bad = []
+filesOf (files fs) = fs
+
+-- the judge's byte from a run's number and its log
+abbrev pub judged : ℕ → List ℕ → ℕ
+judged number log = cond (eqb number 0) (judgeOf log .number) 0
+
+-- one file run: its log over the buffer, its reply at a place
+pub record RunsOne (file log replies : List ℕ) (place : ℕ) (log′ replies′ : List ℕ) : Type 0 where
+  pub logged : log′ ≡ bufferOf (runOf file (length log)) log
+  pub replied : replies′ ≡ putAt place (replyOf (length log) file) replies
+
+-- what the second pass may count on
+pub record Checked (rack replies : List ℕ) : Type 0 where
+  pub good : isRack (rackOf rack) ≡ true
+  pub room : replyLength * numberAt rack 0 ≤ length replies
+
+-- what it gives
+pub record RunsAll (fs : List (List ℕ)) (log replies log′ replies′ : List ℕ) : Type 0 where
+  pub logged : log′ ≡ logAfter (length log) fs log
+  pub replied : replies′ ≡ repliesOf (length log) fs ++ drop (replyLength * length fs) replies
