@@ -36,7 +36,7 @@ module _ (log replies : List ℕ) where
           (tested (rackOf s) true h (lt-ltb (length replies) (replyLength * length (filesOf (rackOf s))) (omega (arith, l, rack-counted s h))))
           (record { numbered = refl; logged = refl; replied = refl })
 
-      pub gives-0 : replyLength * numberAt s 0 ≤ length replies → (log′ replies′ : List ℕ) → RunsAll (filesOf (rackOf s)) log replies log′ replies′
+      pub gives-0 : replyLength * numberAt s 0 ≤ length replies → (log′ replies′ : List ℕ) → RunsAll s log replies log′ replies′
           → Racked s log replies 0 log′ replies′
       gives-0 l log′ replies′ g =
           subst (λ (a : Answer). Gives a 0 log′ replies′)

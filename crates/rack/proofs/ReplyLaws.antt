@@ -1,11 +1,11 @@
 -- One reply: what `run_len` promises of its report and its part of the buffer makes the reply's eight bytes.
 use Prim.Native.Nat.{ℕ, _%_, _≤_, _<_}
 use mathlib.Core.Path.{_≡_, ap, _∙_}
-use mathlib.Core.List.{List, [], _∷_, _++_}
+use mathlib.Core.List.{List}
 use native.Mathlib.Nat.{mod-eq-of-lt}
 use native.Mathlib.Omega.{arith}
 use lib.ListN.{length, getD, take, drop, length-append, length-drop}
-use Rattle.base.specs.Bytes.{Bytes, pair}
+use Rattle.base.specs.Bytes.{Bytes}
 use Rattle.runs.specs.Promise.{Gives}
 use Rattle.runs.specs.Run.{Outcome, runOf}
 use Rattle.runs.proofs.InRange.{run-cases}

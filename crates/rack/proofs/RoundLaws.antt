@@ -41,7 +41,8 @@ splits-back fs =
 files-bytes : (fs : List (List ℕ)) → All (λ (f : List ℕ). Two (length f) × Bytes f) fs → Bytes (filesBytes fs)
 files-bytes [] h = no-bytes
 files-bytes (f ∷ fs) h =
-    both-bytes (pair (length f)) (f ++ filesBytes fs) (pair-bytes (length f) (h .0 .0)) (both-bytes f (filesBytes fs) (h .0 .1) (files-bytes fs (h .1)))
+    both-bytes (pair (length f)) (f ++ filesBytes fs) (pair-bytes (length f) (h .0 .0))
+    (both-bytes f (filesBytes fs) (h .0 .1) (files-bytes fs (h .1)))
 
 pub rack-bytes : (fs : List (List ℕ)) → Fit fs → Bytes (rackBytes fs)
 rack-bytes fs h = both-bytes (pair (length fs)) (filesBytes fs) (pair-bytes (length fs) (h .0)) (files-bytes fs (h .1))

@@ -120,7 +120,7 @@ module _ (s log₀ replies₀ : List ℕ) (count : ℕ) (log replies : List ℕ)
               let k : at + 2 + n ≡ at + fileEnd (numberAt (drop at s) 0) = omega (arith, e, numberAt-drop s at) in
               ap (λ (m : ℕ). drop m s) k ∙ sym (drop-drop (fileEnd (numberAt (drop at s) 0)) at s)
 
-  pub along-all : count ≤ i → RunsAll (filesOf (rackOf s)) log₀ replies₀ log replies
+  pub along-all : count ≤ i → RunsAll s log₀ replies₀ log replies
   along-all h = record {
     logged = ap (λ (fs : List (List ℕ)). logAfter (length log₀) fs log) (sym none) ∙ w .logged;
     replied =

@@ -83,7 +83,8 @@ module _ (s : List ℕ) (at k : ℕ) where
   ends h =
       either-way (λ (x : Split). eqb at (length s) ≡ isRack x) (eqb (length (drop at s)) 0)
       (λ e. let d = eqb-true (length (drop at s)) 0 e in eq-eqb at (length s) (omega (arith, d, h, length-drop at s)))
-      (λ e. by-both (eqb at (length s)) false (λ d. sym e ∙ eq-eqb (length (drop at s)) 0 (omega (arith, eqb-true at (length s) d, length-drop at s))) never)
+      (λ e. by-both (eqb at (length s)) false
+      (λ d. sym e ∙ eq-eqb (length (drop at s)) 0 (omega (arith, eqb-true at (length s) d, length-drop at s))) never)
 
 -- what the loop over the lengths keeps: what is left splits if the whole does
 abbrev pub Walked : List ℕ → ℕ → ℕ → ℕ → Type 0

@@ -4,7 +4,7 @@ ghost use Prim.Native.Nat.{_%_};
 ghost use Rattle.base.specs.Bytes.{putAt};
 ghost use Rattle.rack.specs.Rack.{rackOf, replyBytes};
 ghost use Rattle.rack.specs.Promise.{Racked};
-ghost use Rattle.rack.specs.inner.Walk.{isRack, filesOf, judged as judgedOf, RunsOne, Checked, RunsAll};
+ghost use Rattle.rack.specs.inner.Walk.{isRack, judged as judgedOf, RunsOne, Checked, RunsAll};
 
 // A reply has number, three counts of two bytes, and the judge's number.
 const REPLY_LENGTH: usize = 8;
@@ -89,7 +89,7 @@ fn one(file: &[u8], log: &mut [u8], replies: &mut [u8], place: usize)
 // The files of a rack from the front.
 fn run_all(files: &[u8], log: &mut [u8], replies: &mut [u8])
     requires { ⌜ Checked (now files) (now replies) ⌝ }
-    ensures { λ _. ⌜ RunsAll (filesOf (rackOf (now (files .entry)))) (now (log .entry)) (now (replies .entry)) (now (log .exit)) (now (replies .exit)) ⌝ }
+    ensures { λ _. ⌜ RunsAll (now (files .entry)) (now (log .entry)) (now (replies .entry)) (now (log .exit)) (now (replies .exit)) ⌝ }
 {
     let count = base::number_at(files, 0);
     let mut at: usize = 2;

@@ -28,7 +28,8 @@ sub-if2 c = c .before .before .before .loop .inv .1
 returns-2 : tie.Need-returns-2 Inv-loop μ-loop
 returns-2 c =
     let l = c .before .before .before .before .loop in
-    walked-stops (c .before .before .before .before .before .before .before .before .args .files .now) _ (l .at) (l .i) (c .before .u16-to-usize .result) (l .inv)
+    let s = c .before .before .before .before .before .before .before .before in
+    walked-stops (s .args .files .now) _ (l .at) (l .i) (c .before .u16-to-usize .result) (l .inv)
     (c .before .before .before .loop-test .taken) (c .before .u16-to-usize .ensures .0 ∙ c .before .before .number-at2 .ensures) (c .if2 .taken)
 
 add-at : tie.Need-add-at Inv-loop μ-loop
@@ -43,7 +44,8 @@ loop-less c = omega (arith, c .before .before .before .loop-test .taken)
 loop-again : tie.Need-loop-again Inv-loop μ-loop
 loop-again c =
     let l = c .before .before .before .before .loop in
-    walked-next (c .before .before .before .before .before .before .before .before .args .files .now) _ (l .at) (l .i) (c .before .u16-to-usize .result) (l .inv)
+    let s = c .before .before .before .before .before .before .before .before in
+    walked-next (s .args .files .now) _ (l .at) (l .i) (c .before .u16-to-usize .result) (l .inv)
     (c .before .before .before .loop-test .taken) (c .before .u16-to-usize .ensures .0 ∙ c .before .before .number-at2 .ensures) (c .if2 .left)
 
 returns-3 : tie.Need-returns-3 Inv-loop μ-loop

@@ -17,7 +17,8 @@ slice-reshare-prefix-judged c =
 slice-aggregate-judged : tie.Need-slice-aggregate-judged
 slice-aggregate-judged c =
     let r = c .before .before .before in
-    sym (length-take-le _ _ (written-fits _ (r .before .before .before .before .before .before .before .args .log .now) _ _ _ _ (r .run-len .ensures)))
+    let s = r .before .before .before .before .before .before .before in
+    sym (length-take-le _ _ (written-fits _ (s .args .log .now) _ _ _ _ (r .run-len .ensures)))
 
 returns : tie.Need-returns
 returns c =

@@ -8,7 +8,8 @@ use Rattle.rack.proofs.rack.Statement.{statement}
 use Rattle.rack.proofs.rack.Tie as tie
 
 returns : tie.Need-returns
-returns c = gives-21 _ _ (c .before .before .before .before .before .args .files .now) (sym (c .before .is-rack .ensures) ∙ not-true _ (c .if1 .taken))
+returns c =
+    gives-21 _ _ (c .before .before .before .before .before .args .files .now) (sym (c .before .is-rack .ensures) ∙ not-true _ (c .if1 .taken))
 
 returns-2 : tie.Need-returns-2
 returns-2 c =
@@ -30,7 +31,8 @@ returns-3 c =
     let d = c .before .before .before .before .before .before .before in
     let k = d .before .before .before in
     gives-0 _ _ (k .before .before .before .before .before .args .files .now) (sym (k .before .is-rack .ensures) ∙ not-false _ (k .if1 .left))
-    (omega (arith, d .if2 .left, d .before .u16-to-usize .ensures .0, d .before .before .number-at .ensures)) _ _ (c .before .before .before .before .run-all .ensures)
+    (omega (arith, d .if2 .left, d .before .u16-to-usize .ensures .0, d .before .before .number-at .ensures))
+    _ _ (c .before .before .before .before .run-all .ensures)
 
 pub rack-spec : {M : Type 1} → statement M
 rack-spec =

@@ -34,6 +34,6 @@ pub record Checked (rack replies : List ℕ) : Type 0 where
   pub room : replyLength * numberAt rack 0 ≤ length replies
 
 -- what it gives
-pub record RunsAll (fs : List (List ℕ)) (log replies log′ replies′ : List ℕ) : Type 0 where
-  pub logged : log′ ≡ logAfter (length log) fs log
-  pub replied : replies′ ≡ repliesOf (length log) fs ++ drop (replyLength * length fs) replies
+pub record RunsAll (rack log replies log′ replies′ : List ℕ) : Type 0 where
+  pub logged : log′ ≡ logAfter (length log) (filesOf (rackOf rack)) log
+  pub replied : replies′ ≡ repliesOf (length log) (filesOf (rackOf rack)) ++ drop (replyLength * length (filesOf (rackOf rack))) replies
