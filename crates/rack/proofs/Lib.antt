@@ -2,6 +2,8 @@
 pub mod SplitLaws
 -- One reply, from what a run gives.
 pub mod ReplyLaws
+-- A rack's replies and log buffer are those of single calls.
+pub mod SinglyLaws
 -- The files run from the front, and what they leave in both buffers.
 pub mod RunLaws
 -- The three answers.

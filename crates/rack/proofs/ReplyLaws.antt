@@ -23,14 +23,23 @@ module _ (o : Outcome) (buffer : List ℕ) (written : ℕ) (buffer′ report tab
       let n = length (o .log) in
       omega (arith, g .bytes, ap length (g .kept), length-append (o .log) (drop n buffer), length-drop n buffer)
 
-  pub reply-is : o .number < 256 → (v : ℕ) → v ≡ judged (getD report 0 0) (take written buffer′)
-      → replyBytes (getD report 0 0 % 256) (getD report 1 0) (getD report 2 0) (getD report 3 0) v ≡ replyTo o
-  reply-is h v e =
-      ap (λ (r : List ℕ). replyBytes (getD r 0 0 % 256) (getD r 1 0) (getD r 2 0) (getD r 3 0) v) (g .counts)
-      ∙ ap (λ (n : ℕ). replyBytes n (o .entries) (o .steps) (o .gone) v) (mod-eq-of-lt h)
+  -- the report's numbers and the judge's
+  pub told-as : (v : ℕ) → v ≡ judged (getD report 0 0) (take written buffer′)
+      → replyBytes (getD report 0 0) (getD report 1 0) (getD report 2 0) (getD report 3 0) v ≡ replyTo o
+  told-as v e =
+      ap (λ (r : List ℕ). replyBytes (getD r 0 0) (getD r 1 0) (getD r 2 0) (getD r 3 0) v) (g .counts)
       ∙ ap (replyBytes (o .number) (o .entries) (o .steps) (o .gone)) by-judge
     where
       by-judge : v ≡ judgeByte o
       by-judge =
           e ∙ ap (λ (r : List ℕ). judged (getD r 0 0) (take written buffer′)) (g .counts)
           ∙ ap (judged (o .number)) (front-is o buffer written buffer′ report table g)
+
+  -- the same, with the number as a byte
+  pub reply-is : o .number < 256 → (v : ℕ) → v ≡ judged (getD report 0 0) (take written buffer′)
+      → replyBytes (getD report 0 0 % 256) (getD report 1 0) (getD report 2 0) (getD report 3 0) v ≡ replyTo o
+  reply-is h v e =
+      ap (λ (n : ℕ). replyBytes n (getD report 1 0) (getD report 2 0) (getD report 3 0) v) (mod-eq-of-lt small) ∙ told-as v e
+    where
+      small : getD report 0 0 < 256
+      small = omega (arith, h, ap (λ (r : List ℕ). getD r 0 0) (g .counts))

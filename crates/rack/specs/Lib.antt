@@ -2,6 +2,8 @@
 pub mod Rack
 -- What `rack` promises of it.
 pub mod Promise
+-- What single calls in its order give.
+pub mod Singly
 -- The worked racks, computed.
 pub mod Worked
 -- Terms of the code: a reader may skip them.

@@ -14,7 +14,7 @@ use Rattle.rack.specs.Rack.{Answer, refusal, rackOf, rackBytes, answerTo
 abbrev lent : List ℕ → ℕ → ℕ → Answer
 lent rack log replies = answerTo (rackOf rack) (replicate log 238) (replicate replies 221)
 
--- K1, K4, an empty file and K8; the log buffer ends with K8's log over K4's, whose last three bytes lie above
+-- K1, K4, an empty file and K8: in the log buffer K8's five bytes lie over K4's log, and three bytes are as lent
 abbrev four : List ℕ
 four = rackBytes (K1 .file ∷ K4 .file ∷ [] ∷ K8 .file ∷ [])
 
@@ -41,7 +41,7 @@ unfolding runOf logBytes
 short-log = refl
 
 -- no file at all is a rack, with any reply buffer
-pub none : lent (0 ∷ 0 ∷ []) 3 0 ≡ refusal 0 (replicate 3 238) []
+pub none : lent (0 ∷ 0 ∷ []) 3 0 ≡ record { number = 0; log = replicate 3 238; replies = [] }
 none = refl
 
 -- no racks: nothing, half a count, a byte after the last file, a length that is not there, a file that runs past the end

@@ -1,0 +1,37 @@
+-- What files get singly, one call after another on the same log buffer: a rack's replies and log buffer are to be the same.
+use Prim.Native.Nat.{ℕ}
+use mathlib.Core.Path.{_≡_}
+use mathlib.Core.Bool.{cond}
+use mathlib.Core.List.{List, [], _∷_, _++_}
+use lib.Dec.{eqb}
+use lib.ListN.{length, getD, take}
+use Rattle.rules.specs.Judge.{judgeOf}
+use Rattle.rules.specs.declared.Verdict.{Verdict}
+use Rattle.runs.specs.Promise.{Ran}
+use Rattle.rack.specs.Rack.{replyBytes, repliesOf, logAfter}
+
+-- the judge's number, 0 for a refused file
+abbrev pub unlessRefused : ℕ → Verdict → ℕ
+unlessRefused number verdict = cond (eqb number 0) (verdict .number) 0
+
+-- a file run by `run_len`, and the front part of the buffer judged by `judge`: all that is used of them is what they promise, and that a lent buffer
+-- keeps its length
+pub record Single (file log log′ reply : List ℕ) : Type 0 where
+  pub written : ℕ
+  pub report : List ℕ
+  pub table : List ℕ
+  pub verdict : Verdict
+  pub ran : Ran file log written log′ report table
+  pub same : length log′ ≡ length log
+  pub judged : verdict ≡ judgeOf (take written log′)
+  pub told : reply ≡ replyBytes (getD report 0 0) (getD report 1 0) (getD report 2 0) (getD report 3 0) (unlessRefused (getD report 0 0) verdict)
+
+abbrev pub Singly : List (List ℕ) → List ℕ → List ℕ → List ℕ → Type 0
+Singly [] log log′ replies = (log′ ≡ log) × (replies ≡ [])
+Singly (f ∷ fs) log log′ replies =
+    (between : List ℕ) × (reply : List ℕ) × (later : List ℕ) × Single f log between reply × Singly fs between log′ later × (replies ≡ reply ++ later)
+
+-- a rack's answer is that of single calls in its order
+abbrev pub AsSingly : Type 0
+AsSingly = (fs : List (List ℕ)) (log log′ replies : List ℕ) → Singly fs log log′ replies
+    → (log′ ≡ logAfter (length log) fs log) × (replies ≡ repliesOf (length log) fs)
