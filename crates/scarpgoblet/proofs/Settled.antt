@@ -4,12 +4,19 @@ use mathlib.Core.Path.{_≡_}
 use mathlib.Core.List.{List}
 use Rattle.base.proofs.Settled.{one-value}
 use Rattle.runs.specs.Promise.{Ran}
+use Rattle.rack.specs.Promise.{Racked}
 use Rattle.rules.specs.Judge.{judgeOf}
 
 -- the number of bytes, the buffer, the report and the table
 pub scarpgoblet-run : (file log : List ℕ) (w w′ : ℕ) (b b′ r r′ t t′ : List ℕ) → Ran file log w b r t → Ran file log w′ b′ r′ t′ → (w ≡ w′) × (b ≡ b′) × (r ≡ r′) × (t ≡ t′)
 scarpgoblet-run file log w w′ b b′ r r′ t t′ p q =
     (one-value (p .bytes) (q .bytes), one-value (p .kept) (q .kept), one-value (p .counts) (q .counts), one-value (p .queues) (q .queues))
+
+-- the number, the log buffer and the replies
+pub scarpgoblet-rack : (files log replies : List ℕ) (n n′ : ℕ) (l l′ r r′ : List ℕ) → Racked files log replies n l r → Racked files log replies n′ l′ r′
+    → (n ≡ n′) × (l ≡ l′) × (r ≡ r′)
+scarpgoblet-rack files log replies n n′ l l′ r r′ p q =
+    (one-value (p .numbered) (q .numbered), one-value (p .logged) (q .logged), one-value (p .replied) (q .replied))
 
 pub scarpgoblet-judge : (log : List ℕ) (r r′ : ℕ) → r ≡ judgeOf log .number → r′ ≡ judgeOf log .number → r ≡ r′
 scarpgoblet-judge log r r′ = one-value

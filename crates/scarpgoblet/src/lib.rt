@@ -1,6 +1,7 @@
-// The bench and the judge for a host program in C: include/scarpgoblet.h says what a host may count on.
+// The bench, the rack and the judge for a host program in C: include/scarpgoblet.h says what a host may count on.
 ghost use mathlib.Core.Path.{_≡_};
 ghost use Rattle.runs.specs.Promise.{Ran};
+ghost use Rattle.rack.specs.Promise.{Racked};
 ghost use Rattle.rules.specs.Judge.{judgeOf};
 
 // Runs a file, and gives the number of bytes of the log that it wrote at the front of the host's buffer.
@@ -14,6 +15,15 @@ pub extern "C" fn scarpgoblet_run(
     ensures { λ r. ⌜ Ran (now (file .entry)) (now (log .entry)) r (now (log .exit)) (now (report .exit)) (now (table .exit)) ⌝ }
 {
     bench::run_len(file, log, report, table)
+}
+
+// Runs and judges every file of a rack, and gives 0, 21 or 22.
+#[no_mangle]
+pub extern "C" fn scarpgoblet_rack(files: &[u8], log: &mut [u8], replies: &mut [u8]) -> u32
+    ensures { λ r. ⌜ Racked (now (files .entry)) (now (log .entry)) (now (replies .entry)) r (now (log .exit)) (now (replies .exit)) ⌝ }
+{
+    let number = rack::rack(files, log, replies);
+    number as u32
 }
 
 // The judge's number.
