@@ -7,6 +7,7 @@ use lib.ListN.{length, drop}
 use Rattle.base.specs.Bytes.{Two, Bytes, numberAt, pair, part}
 use Rattle.base.specs.Lists.{All}
 use Rattle.rules.specs.Judge.{judgeOf}
+use Rattle.rules.specs.declared.Verdict.{Verdict}
 use Rattle.runs.specs.Promise.{bufferOf}
 use Rattle.runs.specs.Run.{Outcome, runOf}
 
@@ -46,9 +47,16 @@ filesBytes (f ∷ fs) = pair (length f) ++ (f ++ filesBytes fs)
 abbrev pub rackBytes : List (List ℕ) → List ℕ
 rackBytes fs = pair (length fs) ++ filesBytes fs
 
--- the judge's number of a run's log; 0 for a refused file
+-- the judge's number; 0 for a refused file
+abbrev pub unlessRefused : ℕ → Verdict → ℕ
+unlessRefused number verdict = cond (eqb number 0) (verdict .number) 0
+
+-- that of a run's number and its log
+abbrev pub judged : ℕ → List ℕ → ℕ
+judged number log = unlessRefused number (judgeOf log)
+
 abbrev pub judgeByte : Outcome → ℕ
-judgeByte o = cond (eqb (o .number) 0) (judgeOf (o .log) .number) 0
+judgeByte o = judged (o .number) (o .log)
 
 -- a reply: number, entries, steps, gone-round, judge's number
 abbrev pub replyBytes : ℕ → ℕ → ℕ → ℕ → ℕ → List ℕ

@@ -1,18 +1,12 @@
 -- What files get singly, one call after another on the same log buffer: a rack's replies and log buffer are to be the same.
 use Prim.Native.Nat.{ℕ}
 use mathlib.Core.Path.{_≡_}
-use mathlib.Core.Bool.{cond}
 use mathlib.Core.List.{List, [], _∷_, _++_}
-use lib.Dec.{eqb}
 use lib.ListN.{length, getD, take}
 use Rattle.rules.specs.Judge.{judgeOf}
 use Rattle.rules.specs.declared.Verdict.{Verdict}
 use Rattle.runs.specs.Promise.{Ran}
-use Rattle.rack.specs.Rack.{replyBytes, repliesOf, logAfter}
-
--- the judge's number, 0 for a refused file
-abbrev pub unlessRefused : ℕ → Verdict → ℕ
-unlessRefused number verdict = cond (eqb number 0) (verdict .number) 0
+use Rattle.rack.specs.Rack.{unlessRefused, replyBytes, repliesOf, logAfter}
 
 -- a file run by `run_len`, and the front part of the buffer judged by `judge`: all that is used of them is what they promise, and that a lent buffer
 -- keeps its length

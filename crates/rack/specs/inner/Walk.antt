@@ -1,12 +1,10 @@
 -- What the two passes over a rack say of it: whether it is one, and its files where it is.
 use Prim.Native.Nat.{ℕ, _*_, _≤_}
 use mathlib.Core.Path.{_≡_}
-use mathlib.Core.Bool.{Bool, true, false, cond}
+use mathlib.Core.Bool.{Bool, true, false}
 use mathlib.Core.List.{List, [], _++_}
-use lib.Dec.{eqb}
 use lib.ListN.{length, drop}
 use Rattle.base.specs.Bytes.{numberAt, putAt}
-use Rattle.rules.specs.Judge.{judgeOf}
 use Rattle.runs.specs.Promise.{bufferOf}
 use Rattle.runs.specs.Run.{runOf}
 use Rattle.rack.specs.Rack.{Split, bad, files, rackOf, replyLength, replyOf, repliesOf, logAfter}
@@ -18,10 +16,6 @@ isRack (files fs) = true
 abbrev pub filesOf : Split → List (List ℕ)
 filesOf bad = []
 filesOf (files fs) = fs
-
--- the judge's byte from a run's number and its log
-abbrev pub judged : ℕ → List ℕ → ℕ
-judged number log = cond (eqb number 0) (judgeOf log .number) 0
 
 -- one file run: its log over the buffer, its reply at a place
 pub record RunsOne (file log replies : List ℕ) (place : ℕ) (log′ replies′ : List ℕ) : Type 0 where
