@@ -1,11 +1,18 @@
--- Lists: the first values of a function, and what holds of all elements and of all pairs.
+-- Lists: the first values of a function, what stands in a list, and what holds of all elements and of all pairs.
 use Prim.Native.Nat.{ℕ, zero, suc}
+use mathlib.Core.Path.{_≡_}
+use mathlib.Core.Logic.{_⊎_}
 use mathlib.Core.List.{List, [], _∷_}
 
 -- the first n values of f
 abbrev pub listOf : {A : Type 0} → ℕ → (ℕ → A) → List A
 listOf zero f = []
 listOf (suc n) f = f zero ∷ listOf n (λ i. f (suc i))
+
+-- a stands in the list
+abbrev pub In : {A : Type 0} → A → List A → Type 0
+In a [] = ⊥
+In a (x ∷ l) = (a ≡ x) ⊎ In a l
 
 abbrev pub All : {A : Type 0} → (A → Type 0) → List A → Type 0
 All P [] = Unit {0}

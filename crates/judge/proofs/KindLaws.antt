@@ -13,84 +13,48 @@ use Rattle.log.specs.Numbers.{push, bottomPop, done, bearsMoment, whatOf, same}
 use Rattle.log.specs.declared.What.{What}
 use Rattle.log.specs.declared.What.the-variants.{Pushed, Full, BottomNode, BottomNil, TopNode, TopNil}
 
--- what is so of a kind, by whether it is a push, whether a bottom pop, and whether the result is done: it is not both
-by-kind : (P : Bool → Bool → Bool → Type 0) → ((v : Bool) → P true false v) → ((u v : Bool) → P false u v)
-    → (k r : ℕ) → P (eqb k push) (eqb k bottomPop) (eqb r done)
-by-kind P f g k r = split (eqb k push) (eqb k bottomPop) refl refl
-  where
-    split : (t u : Bool) → eqb k push ≡ t → eqb k bottomPop ≡ u → P t u (eqb r done)
-    split true true e d = absurd (let z : _≡_ {A = ℕ} push bottomPop = sym (eqb-true k push e) ∙ eqb-true k bottomPop d in omega arith)
-    split true false e d = f (eqb r done)
-    split false u e d = g u (eqb r done)
-
--- `whatOf` of the three tests
+-- `whatOf` of three tests: whether the kind is a push, whether a bottom pop, and whether the result is done
 abbrev did : Bool → Bool → Bool → What
 did t u v = cond t (cond v Pushed Full) (cond u (cond v BottomNode BottomNil) (cond v TopNode TopNil))
 
-pub bears-is : (k r : ℕ) → (eqb k bottomPop || eqb r done) ≡ bearsMoment (whatOf k r)
-bears-is = by-kind (λ t u v. (u || v) ≡ bearsMoment (did t u v)) first rest
-  where
-    first : (v : Bool) → (false || v) ≡ bearsMoment (did true false v)
-    first true = refl
-    first false = refl
+-- where a and b agree
+abbrev At : (a b : Bool → Bool → Bool → Bool) → Bool → Bool → Bool → Type 0
+At a b t u v = a t u v ≡ b t u v
 
-    rest : (u v : Bool) → (u || v) ≡ bearsMoment (did false u v)
-    rest true true = refl
-    rest true false = refl
-    rest false true = refl
-    rest false false = refl
+-- they agree on every kind and result if on the six answers that the tests can give: no kind is both a push and a bottom pop
+by-tests : (a b : Bool → Bool → Bool → Bool) → At a b true false true × At a b true false false × At a b false true true × At a b false true false
+    × At a b false false true × At a b false false false → (k r : ℕ) → At a b (eqb k push) (eqb k bottomPop) (eqb r done)
+by-tests a b h k r = split (eqb k push) (eqb k bottomPop) (eqb r done) refl refl
+  where
+    split : (t u v : Bool) → eqb k push ≡ t → eqb k bottomPop ≡ u → At a b t u v
+    split true true v e d = absurd (let z : _≡_ {A = ℕ} push bottomPop = sym (eqb-true k push e) ∙ eqb-true k bottomPop d in omega arith)
+    split true false true e d = h .0
+    split true false false e d = h .1
+    split false true true e d = h .2
+    split false true false e d = h .3
+    split false false true e d = h .4
+    split false false false e d = h .5
+
+pub bears-is : (k r : ℕ) → (eqb k bottomPop || eqb r done) ≡ bearsMoment (whatOf k r)
+bears-is = by-tests (λ t u v. u || v) (λ t u v. bearsMoment (did t u v)) (refl, refl, refl, refl, refl, refl)
 
 pub pushed-is : (k r : ℕ) → (eqb k push && eqb r done) ≡ same Pushed (whatOf k r)
-pushed-is = by-kind (λ t u v. (t && v) ≡ same Pushed (did t u v)) first rest
-  where
-    first : (v : Bool) → (true && v) ≡ same Pushed (did true false v)
-    first true = refl
-    first false = refl
-
-    rest : (u v : Bool) → false ≡ same Pushed (did false u v)
-    rest true true = refl
-    rest true false = refl
-    rest false true = refl
-    rest false false = refl
-
-pub took-top-is : (k r : ℕ) → ((not (eqb k push) && not (eqb k bottomPop)) && eqb r done) ≡ same TopNode (whatOf k r)
-took-top-is = by-kind (λ t u v. ((not t && not u) && v) ≡ same TopNode (did t u v)) first rest
-  where
-    first : (v : Bool) → false ≡ same TopNode (did true false v)
-    first true = refl
-    first false = refl
-
-    rest : (u v : Bool) → (not u && v) ≡ same TopNode (did false u v)
-    rest true true = refl
-    rest true false = refl
-    rest false true = refl
-    rest false false = refl
+pushed-is = by-tests (λ t u v. t && v) (λ t u v. same Pushed (did t u v)) (refl, refl, refl, refl, refl, refl)
 
 pub full-is : (k r : ℕ) → (eqb k push && not (eqb r done)) ≡ same Full (whatOf k r)
-full-is = by-kind (λ t u v. (t && not v) ≡ same Full (did t u v)) first rest
-  where
-    first : (v : Bool) → (true && not v) ≡ same Full (did true false v)
-    first true = refl
-    first false = refl
+full-is = by-tests (λ t u v. t && not v) (λ t u v. same Full (did t u v)) (refl, refl, refl, refl, refl, refl)
 
-    rest : (u v : Bool) → false ≡ same Full (did false u v)
-    rest true true = refl
-    rest true false = refl
-    rest false true = refl
-    rest false false = refl
+pub took-bottom-is : (k r : ℕ) → (eqb k bottomPop && eqb r done) ≡ same BottomNode (whatOf k r)
+took-bottom-is = by-tests (λ t u v. u && v) (λ t u v. same BottomNode (did t u v)) (refl, refl, refl, refl, refl, refl)
+
+pub bottom-nil-is : (k r : ℕ) → (eqb k bottomPop && not (eqb r done)) ≡ same BottomNil (whatOf k r)
+bottom-nil-is = by-tests (λ t u v. u && not v) (λ t u v. same BottomNil (did t u v)) (refl, refl, refl, refl, refl, refl)
+
+pub took-top-is : (k r : ℕ) → ((not (eqb k push) && not (eqb k bottomPop)) && eqb r done) ≡ same TopNode (whatOf k r)
+took-top-is = by-tests (λ t u v. (not t && not u) && v) (λ t u v. same TopNode (did t u v)) (refl, refl, refl, refl, refl, refl)
 
 pub top-nil-is : (k r : ℕ) → ((not (eqb k push) && not (eqb k bottomPop)) && not (eqb r done)) ≡ same TopNil (whatOf k r)
-top-nil-is = by-kind (λ t u v. ((not t && not u) && not v) ≡ same TopNil (did t u v)) first rest
-  where
-    first : (v : Bool) → false ≡ same TopNil (did true false v)
-    first true = refl
-    first false = refl
-
-    rest : (u v : Bool) → (not u && not v) ≡ same TopNil (did false u v)
-    rest true true = refl
-    rest true false = refl
-    rest false true = refl
-    rest false false = refl
+top-nil-is = by-tests (λ t u v. (not t && not u) && not v) (λ t u v. same TopNil (did t u v)) (refl, refl, refl, refl, refl, refl)
 
 -- what is so on an arm of several variants, told by their places in the enum
 module _ (P : What → Type 0) where

@@ -2,4 +2,3 @@
 pub mod Order
 pub mod Replay
 pub mod Causes
-pub mod Fulls

@@ -24,6 +24,9 @@ same-refl BottomNil = refl
 same-refl TopNode = refl
 same-refl TopNil = refl
 
+pub same-of : (w x : What) → x ≡ w → same w x ≡ true
+same-of w x h = ap (same w) h ∙ same-refl w
+
 pub same-true : (a b : What) → same a b ≡ true → a ≡ b
 same-true a b h = by-parts (eqb (kindOf a) (kindOf b)) refl h
   where

@@ -3,7 +3,7 @@ use mathlib.Core.Path.{_≡_, refl, sym, ap, _∙_, subst}
 use mathlib.Core.Bool.{Bool, true, false, cond, _&&_, not}
 use mathlib.Core.Logic.{_⊎_, inl, inr}
 use mathlib.Core.List.{List, [], _∷_, _++_}
-use Prim.Native.Nat.{ℕ, suc, _+_, _-_, _*_, _≤_, _<_}
+use Prim.Native.Nat.{ℕ, suc, _+_, _*_, _≤_, _<_}
 use native.Mathlib.Omega.{arith}
 use borrow.Author.Tests.{lt-ltb, le-ltb, ltb-true, ltb-false, le-leb, leb-true, eq-eqb, eqb-true}
 use lib.Dec.{ltb, leb, eqb}
@@ -13,14 +13,14 @@ use Rattle.log.specs.declared.Entry.{Entry}
 use Rattle.log.specs.declared.What.{What}
 use Rattle.log.specs.declared.What.the-variants.{Pushed, Full, BottomNode, BottomNil, TopNode, TopNil}
 use Rattle.log.specs.Numbers.{bearsMoment, what, same}
-use Rattle.log.proofs.NumbersLaws.{same-refl, same-true}
+use Rattle.log.proofs.NumbersLaws.{same-of, same-true}
 use Rattle.log.specs.Decode.{sectionCountOf, processesOf, slotsOf, entryCountOf, entryAt}
 use Rattle.log.specs.Encode.{Log, sectionCount, InRange, logBytes, decoded}
 use Rattle.log.proofs.EncodeLaws.{entry-decoded, processes-decoded, slots-decoded, entry-count-decoded, whole-encoded, encode-decode, in-range}
 use Rattle.rules.specs.declared.Verdict.{Verdict}
 use Rattle.rules.specs.Search.{any}
 use Rattle.rules.specs.Contents.{bears, on, before}
-use Rattle.rules.specs.Rules.{clash, bearsAt, isEmpty, topIs, bottomIs, addedBefore, fresh, lawful, lawfulAt, inCall, emptyWithin, takesTopmost, removes, hasCause, donePushes, breaks1, breaks2, breaks3, breaks4, breaks5, breaks6}
+use Rattle.rules.specs.Rules.{clash, bearsAt, isEmpty, topIs, bottomIs, addedBefore, fresh, lawful, lawfulAt, inCall, emptyWithin, takesTopmost, removes, hasCause, since, breaks1, breaks2, breaks3, breaks4, breaks5, breaks6}
 use Rattle.rules.specs.Judge.{says, first1, first2, first3, first4, first5, first6, worst4, orElse, rulesOf, headRight, judgeOf}
 use Rattle.rules.specs.Accepted.{TopIs, BottomIs, Rule4, EmptyIn, RemovedIn, Accepted, entryOf, AcceptedLog, AcceptedBytes, JudgedZero}
 use Rattle.base.proofs.Bools.{contra, not-so, and-i, and-0, and-1, or-l, or-r, or-e, guarded, not-i, not-e, not-f}
@@ -28,6 +28,7 @@ use Rattle.rules.proofs.SearchLaws.{from-i, from-e, Found, any-e, any-i
 use Rattle.rules.proofs.FieldLaws.{fields-back, order-back, moment, moment-back}
 use Rattle.rules.proofs.KeptLaws.{fields-of, order-of, moments-of, distinct}
 use Rattle.rules.proofs.ContentLaws.{topmost}
+use Rattle.rules.proofs.Rule6Laws.{rule6-from, rule6-to}
 use Rattle.rules.proofs.VerdictLaws.{headOf, says0, says-later, whole}
 
 -- the ends of a queue
@@ -48,9 +49,6 @@ bottom-from : (v : ℕ) (c : List ℕ) → bottomIs v (c ++ (v ∷ [])) ≡ true
 bottom-from v [] = eq-eqb v v refl
 bottom-from v (x ∷ []) = eq-eqb v v refl
 bottom-from v (x ∷ y ∷ c) = bottom-from v (y ∷ c)
-
-same-of : (w x : What) → x ≡ w → same w x ≡ true
-same-of w x h = ap (same w) h ∙ same-refl w
 
 module _ (f : ℕ → Entry) (n : ℕ) where
   -- rule 4
@@ -147,6 +145,13 @@ module _ (f : ℕ → Entry) (n : ℕ) where
               topmost = topmost (what d) c (and-1 (on (e .queue) d && inCall e (d .moment) && other) (takesTopmost (what d) c) (z .passes));
             }
 
+  -- rule 6: what the test counts
+  abbrev pushes : ℕ → ℕ
+  pushes j = since Pushed f (f j .queue) j
+
+  abbrev pops : ℕ → ℕ
+  pops j = since BottomNode f (f j .queue) j
+
   -- an accepted log breaks no rule: what a theorem about logs that are made has to show
   pub accepted-says : (P C : ℕ) → Accepted f n P C → rulesOf f n P C ≡ says 0 0
   accepted-says P C g =
@@ -163,8 +168,8 @@ module _ (f : ℕ → Entry) (n : ℕ) where
       (g .rule4 j u))))))
       (none (breaks5 f n) n (λ j u. guarded (same TopNil (what (f j))) (not (hasCause f n (f j)))
       (λ t. ap not (cause-from (f j) (g .rule5 j u (sym (same-true TopNil (what (f j)) t)))))))
-      (none (breaks6 f n C) n (λ j u. guarded (same Full (what (f j))) (ltb (donePushes f n (f j .queue) (2 * f j .start)) C)
-      (λ t. le-ltb (donePushes f n (f j .queue) (2 * f j .start)) C (g .rule6 j u (sym (same-true Full (what (f j)) t))))))
+      (none (breaks6 f C) n (λ j u. guarded (same Full (what (f j))) (ltb (pushes j) (C + pops j))
+      (λ t. le-ltb (pushes j) (C + pops j) (rule6-from f n C j u (g .rule6 j u (sym (same-true Full (what (f j)) t)))))))
       refl))
 
   -- and a log that breaks none is accepted
@@ -187,9 +192,8 @@ module _ (f : ℕ → Entry) (n : ℕ) where
         not-f (lawfulAt f n (f j)) (sym (ap (λ (t : Bool). t && not (lawfulAt f n (f j))) b) ∙ none-unlawful small h4 j u));
     rule5 = λ j u t. cause-to (f j) (not-f (hasCause f n (f j))
         (sym (ap (λ (s : Bool). s && not (hasCause f n (f j))) (same-of TopNil (what (f j)) t)) ∙ none-passes (breaks5 f n) n h5 j u));
-    rule6 = λ j u t. ltb-false (donePushes f n (f j .queue) (2 * f j .start)) C
-        (sym (ap (λ (s : Bool). s && ltb (donePushes f n (f j .queue) (2 * f j .start)) C) (same-of Full (what (f j)) t))
-        ∙ none-passes (breaks6 f n C) n h6 j u);
+    rule6 = λ j u t. rule6-to f n C j u (ltb-false (pushes j) (C + pops j)
+        (sym (ap (λ (s : Bool). s && ltb (pushes j) (C + pops j)) (same-of Full (what (f j)) t)) ∙ none-passes (breaks6 f C) n h6 j u));
   }
     where
       small : (j : ℕ) → j < n → bears (f j) ≡ true → f j .moment < 65536

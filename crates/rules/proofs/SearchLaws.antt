@@ -7,7 +7,7 @@ use native.Mathlib.Omega.{arith}
 use native.Mathlib.Decide.{ℕ-discrete}
 use borrow.Author.Tests.{lt-ltb, le-ltb, ltb-true, ltb-false}
 use lib.Dec.{ltb}
-use Rattle.rules.specs.Search.{first, any, anyFrom, count, lowest}
+use Rattle.rules.specs.Search.{first, any, anyFrom, lowest}
 use Rattle.base.proofs.Bools.{contra, not-so, or-l, or-r, or-e, by-both}
 
 -- the first
@@ -63,17 +63,6 @@ lowest-le p key (suc n) i h e = step (p n) (ltb (key n) (lowest p key n)) refl r
     step false u a b (yes q) r = contra (p i) e (ap p q ∙ a)
     step false u a b (no q) r = r (omega arith) e
 
--- a count over fewer
-pub count-mono : (p r : ℕ → Bool) (n : ℕ) → ((i : ℕ) → p i ≡ true → r i ≡ true) → count p n ≤ count r n
-count-mono p r zero h = omega arith
-count-mono p r (suc n) h = step (p n) (r n) refl refl (count-mono p r n h)
-  where
-    step : (t u : Bool) → p n ≡ t → r n ≡ u → count p n ≤ count r n → cond t (count p n + 1) (count p n) ≤ cond u (count r n + 1) (count r n)
-    step true true a b k = omega arith
-    step true false a b k = contra (r n) (h n a) b
-    step false true a b k = omega arith
-    step false false a b k = k
-
 pub record Found (p : ℕ → Bool) (n : ℕ) : Type 0 where
   pub at : ℕ
   pub below : at < n
@@ -118,18 +107,6 @@ first-found p i n h e = let k : n - i ≡ suc (n - (i + 1)) = omega arith in rw 
 
 pub first-end : (p : ℕ → Bool) (i n : ℕ) → n ≤ i → i ≡ first p i (n - i)
 first-end p i n h = let k : n - i ≡ 0 = omega arith in rw k
-
--- the loop of `count`: what is done is the whole of a smaller one
-pub count-next : (p : ℕ → Bool) (i c d : ℕ) (t : Bool) → t ≡ p i → c ≡ count p i → d ≡ cond t (c + 1) c → d ≡ count p (i + 1)
-count-next p i c d t e₁ e₂ e₃ = rw (add-one, e₃, e₁, e₂)
-
-pub count-le : (p : ℕ → Bool) (n : ℕ) → count p n ≤ n
-count-le p zero = omega arith
-count-le p (suc n) = step (p n) (count-le p n)
-  where
-    step : (t : Bool) → count p n ≤ n → cond t (count p n + 1) (count p n) ≤ suc n
-    step true h = omega arith
-    step false h = omega arith
 
 pub first-start : (p : ℕ → Bool) (n : ℕ) → first p 0 (n - 0) ≡ first p 0 n
 first-start p n = let k : n - 0 ≡ n = omega arith in rw k

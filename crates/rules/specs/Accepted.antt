@@ -2,7 +2,7 @@
 -- `judged-0` in proofs/AcceptedLaws.antt shows that the judge's number is 0 exactly for the bytes of such a log.
 use Prim.Native.Nat.{ℕ, suc, _+_, _*_, _≤_, _<_}
 use mathlib.Core.Path.{_≡_}
-use mathlib.Core.Bool.{true, false}
+use mathlib.Core.Bool.{true, false, cond}
 use mathlib.Core.Logic.{_⊎_, _↔_}
 use mathlib.Core.List.{List, [], _∷_, _++_}
 use lib.ListN.{length, getD}
@@ -11,10 +11,11 @@ use Rattle.log.specs.declared.What.{What}
 use Rattle.log.specs.declared.What.the-variants.{Pushed, Full, BottomNode, BottomNil, TopNode, TopNil}
 use Rattle.log.specs.Numbers.{push, bottomPop, topPop, nil, full, noMoment, what}
 use Rattle.base.specs.Bytes.{Bytes}
+use Rattle.base.specs.Lists.{In, All, Pairs}
 use Rattle.log.specs.Decode.{firstEntry}
 use Rattle.log.specs.Encode.{Log, InRange, logBytes}
 use Rattle.rules.specs.Contents.{bears, before}
-use Rattle.rules.specs.Rules.{lastEnd, donePushes}
+use Rattle.rules.specs.Rules.{lastEnd}
 use Rattle.rules.specs.Judge.{judgeOf}
 
 -- Rule 1. Fields:
@@ -63,6 +64,16 @@ TopIs v c = (rest : List ℕ) × (c ≡ v ∷ rest)
 abbrev pub BottomIs : ℕ → List ℕ → Type 0
 BottomIs v c = (rest : List ℕ) × (c ≡ rest ++ (v ∷ []))
 
+-- l lists the numbers of which P holds, each once, greater ones first
+pub record Lists (P : ℕ → Type 0) (l : List ℕ) : Type 0 where
+  pub only : All P l
+  pub once : Pairs (λ i k. k < i) l
+  pub every : (i : ℕ) → P i → In i l
+
+-- an entry's place in the log
+abbrev pub place : ℕ → ℕ
+place i = i
+
 module _ (f : ℕ → Entry) (n : ℕ) where
   -- Rule 4, of an entry e that did w and finds its queue holding c, top first.
   abbrev pub Rule4 : Entry → List ℕ → What → Type 0
@@ -93,6 +104,23 @@ module _ (f : ℕ → Entry) (n : ℕ) where
     pub to : f by .moment ≤ 2 * e .end + 1
     pub topmost : (what (f by) ≡ TopNode) ⊎ ((what (f by) ≡ BottomNode) × (length (before f n (e .queue) (f by .moment)) ≡ 1))
 
+  -- Rule 6 speaks of calls that come before and after one another: `at` says where each entry stands.
+  -- Entry i did w, on the queue of the FULL j, before the FULL and after the latest NIL bottom pop there before the FULL: after each one.
+  pub record Counts (at : ℕ → ℕ) (w : What) (j i : ℕ) : Type 0 where
+    pub below : i < n
+    pub did : what (f i) ≡ w
+    pub queue : f i .queue ≡ f j .queue
+    pub before : at i < at j
+    pub after : (k : ℕ) → k < n → what (f k) ≡ BottomNil → f k .queue ≡ f j .queue → at k < at j → at k < at i
+
+  -- Of the done pushes and the node-giving bottom pops that count for the FULL j, all of them listed, pushes less pops are at least C.
+  pub record Rule6 (at : ℕ → ℕ) (C j : ℕ) : Type 0 where
+    pub pushes : List ℕ
+    pub pops : List ℕ
+    pub pushes-are : Lists (Counts at Pushed j) pushes
+    pub pops-are : Lists (Counts at BottomNode j) pops
+    pub enough : C + length pops ≤ length pushes
+
   -- A log f of n entries, P processes and C slots is accepted:
   pub record Accepted (P C : ℕ) : Type 0 where
     -- Rule 1. Fields,
@@ -106,8 +134,8 @@ module _ (f : ℕ → Entry) (n : ℕ) where
     pub rule4 : (j : ℕ) → j < n → Rule4 (f j) (before f n (f j .queue) (f j .moment)) (what (f j))
     -- Rule 5. A top pop with NIL has its cause,
     pub rule5 : (j : ℕ) → j < n → what (f j) ≡ TopNil → EmptyIn (f j) ⊎ RemovedIn (f j)
-    -- Rule 6. FULL has at least C done pushes on that queue with moments below 2 × start.
-    pub rule6 : (j : ℕ) → j < n → what (f j) ≡ Full → C ≤ donePushes f n (f j .queue) (2 * f j .start)
+    -- Rule 6. FULL, by place in the log.
+    pub rule6 : (j : ℕ) → j < n → what (f j) ≡ Full → Rule6 place C j
 
 -- entry i of a list; past the end, as bytes past the end read, all numbers are 0
 abbrev pub entryOf : List Entry → ℕ → Entry
@@ -126,3 +154,13 @@ pub record AcceptedBytes (bytes : List ℕ) : Type 0 where
 -- The judge gives 0 exactly for the bytes of an accepted log.
 abbrev pub JudgedZero : Type 0
 JudgedZero = (bytes : List ℕ) → Bytes bytes → (judgeOf bytes .number ≡ 0) ↔ AcceptedBytes bytes
+
+-- By moments rule 6 is the same: all its calls are the owner's own, and rules 1 to 3 put them in the same order. A FULL bears no moment;
+-- before it is before its start.
+abbrev pub time : Entry → ℕ
+time e = cond (bears e) (e .moment) (2 * e .start)
+
+abbrev pub SameByMoments : Type 0
+SameByMoments =
+    (f : ℕ → Entry) (n P C : ℕ) → ((j : ℕ) → j < n → Rule1 P (f j)) → ((i j : ℕ) → i < j → j < n → Rule2 (f i) (f j)) → ((j : ℕ) → j < n → Rule3 (f j))
+    → (j : ℕ) → j < n → what (f j) ≡ Full → Rule6 f n place C j ↔ Rule6 f n (λ i. time (f i)) C j

@@ -36,7 +36,7 @@ abbrev pub first5 : (ℕ → Entry) → ℕ → ℕ
 first5 f n = first (breaks5 f n) 0 n
 
 abbrev pub first6 : (ℕ → Entry) → ℕ → ℕ → ℕ
-first6 f n C = first (breaks6 f n C) 0 n
+first6 f n C = first (breaks6 f C) 0 n
 
 -- `number` at entry j where there is such an entry of n, else what comes next
 abbrev pub orElse : ℕ → ℕ → ℕ → Verdict → Verdict

@@ -1,6 +1,6 @@
 -- Document 01, "What the judge accepts": for each rule by itself, when entry j of a log breaks it. The log is f, from an
 -- entry's index to the entry, with n entries, P processes and C slots. A rule is asked only of logs that keep the earlier ones.
-use Prim.Native.Nat.{ℕ, suc, _+_, _*_}
+use Prim.Native.Nat.{ℕ, zero, suc, _+_, _*_}
 use mathlib.Core.Bool.{Bool, true, false, cond, _&&_, _||_, not, Bool·beq}
 use mathlib.Core.List.{List, [], _∷_}
 use lib.ListN.{length}
@@ -9,7 +9,7 @@ use Rattle.log.specs.declared.Entry.{Entry}
 use Rattle.log.specs.declared.What.{What}
 use Rattle.log.specs.declared.What.the-variants.{Pushed, Full, BottomNode, BottomNil, TopNode, TopNil}
 use Rattle.log.specs.Numbers.{push, bottomPop, topPop, nil, full, noMoment, what, same}
-use Rattle.rules.specs.Search.{any, anyFrom, count}
+use Rattle.rules.specs.Search.{any, anyFrom}
 use Rattle.rules.specs.Contents.{bears, on, before}
 
 -- RULE 1. Fields: process and queue below P; kind 1 to 3, result 0 to 2; a push or bottom pop on its own queue; result 2
@@ -146,13 +146,16 @@ hasCause f n e = emptyWithin f n (e .queue) (2 * e .start) (2 * e .end + 1) || a
 abbrev pub breaks5 : (ℕ → Entry) → ℕ → ℕ → Bool
 breaks5 f n j = same TopNil (what (f j)) && not (hasCause f n (f j))
 
--- RULE 6. FULL has at least C done pushes on that queue with moments below 2 × start.
-abbrev pub pushedOn : ℕ → ℕ → Entry → Bool
-pushedOn q m d = same Pushed (what d) && eqb (d .queue) q && ltb (d .moment) m
+-- RULE 6 (C-12). FULL: on that queue, counting done pushes and node-giving bottom pops after its latest NIL bottom pop and
+-- before the FULL (from the log's beginning if there is none), pushes less pops are at least C. All of it by place in the log.
+-- d did w, on queue q
+abbrev pub did : What → ℕ → Entry → Bool
+did w q d = same w (what d) && eqb (d .queue) q
 
--- how many done pushes on queue q have moments below m
-abbrev pub donePushes : (ℕ → Entry) → ℕ → ℕ → ℕ → ℕ
-donePushes f n q m = count (λ k. pushedOn q m (f k)) n
+-- how many entries before j did w, on queue q, after its latest NIL bottom pop: at each of them the count begins anew
+abbrev pub since : What → (ℕ → Entry) → ℕ → ℕ → ℕ
+since w f q zero = 0
+since w f q (suc j) = cond (did BottomNil q (f j)) 0 (cond (did w q (f j)) (since w f q j + 1) (since w f q j))
 
-abbrev pub breaks6 : (ℕ → Entry) → ℕ → ℕ → ℕ → Bool
-breaks6 f n C j = same Full (what (f j)) && ltb (donePushes f n (f j .queue) (2 * f j .start)) C
+abbrev pub breaks6 : (ℕ → Entry) → ℕ → ℕ → Bool
+breaks6 f C j = same Full (what (f j)) && ltb (since Pushed f (f j .queue) j) (C + since BottomNode f (f j .queue) j)

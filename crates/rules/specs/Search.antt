@@ -1,4 +1,4 @@
--- Searches over indices: the first that passes a test, whether one does, how many do, and the lowest key of those that do.
+-- Searches over indices: the first that passes a test, whether one does, and the lowest key of those that do.
 use Prim.Native.Nat.{ℕ, zero, suc, _+_, _-_}
 use mathlib.Core.Bool.{Bool, cond, _&&_}
 use lib.Dec.{ltb}
@@ -15,11 +15,6 @@ any p n = ltb (first p 0 n) n
 -- whether one of a, a + 1, .. b passes
 abbrev pub anyFrom : (ℕ → Bool) → ℕ → ℕ → Bool
 anyFrom p a b = any (λ k. p (a + k)) (suc b - a)
-
--- how many below n pass
-abbrev pub count : (ℕ → Bool) → ℕ → ℕ
-count p zero = 0
-count p (suc n) = cond (p n) (count p n + 1) (count p n)
 
 -- the lowest key of those below n that pass, or 65,536, which no number of two bytes reaches
 abbrev pub lowest : (ℕ → Bool) → (ℕ → ℕ) → ℕ → ℕ

@@ -46,6 +46,10 @@ k4 last =
     call 0 0 Pushed 1 0 2 4 ∷ call 0 0 BottomNode 1 6 11 14 ∷ call 0 0 Pushed 2 12 14 28 ∷ call 0 0 BottomNode 2 15 20 32 ∷ call 0 0 Pushed 3 21 23 46
     ∷ last ∷ []
 
+-- a node pushed and popped again, then calls that end in this order
+abbrev emptied : List Entry → List Entry
+emptied es = call 0 0 Pushed 7 0 2 4 ∷ call 0 0 BottomNode 7 3 8 8 ∷ es
+
 -- two nodes pushed, then calls that end in this order
 abbrev after-two : List Entry → List Entry
 after-two es = call 0 0 Pushed 5 0 2 4 ∷ call 0 0 Pushed 6 3 5 10 ∷ es
@@ -66,6 +70,17 @@ worked =
     ∷ accepted 1 2 (call 0 0 Pushed 7 0 2 4 ∷ call 0 0 Pushed 8 3 5 10 ∷ call 0 0 Full 9 6 6 noMoment ∷ [])
     -- a push on another queue does not count
     ∷ gives 19 1 2 1 (call 1 1 Pushed 7 0 2 4 ∷ call 0 0 Full 8 3 3 noMoment ∷ [])
+    -- C-12: the box that claimed FULL on an empty queue; without the NIL pop; with a NIL pop of another queue in its place, and after the FULL
+    ∷ gives 19 3 1 1 (emptied (call 0 0 BottomNil 0 9 9 18 ∷ call 0 0 Full 8 10 10 noMoment ∷ []))
+    ∷ gives 19 2 1 1 (emptied (call 0 0 Full 8 9 9 noMoment ∷ []))
+    ∷ gives 19 3 2 1 (emptied (call 1 1 BottomNil 0 9 9 18 ∷ call 0 0 Full 8 10 10 noMoment ∷ []))
+    ∷ gives 19 2 1 1 (emptied (call 0 0 Full 8 9 9 noMoment ∷ call 0 0 BottomNil 0 10 10 20 ∷ []))
+    -- with another push before the FULL; that push with a NIL pop of another queue after it
+    ∷ accepted 1 1 (emptied (call 0 0 BottomNil 0 9 9 18 ∷ call 0 0 Pushed 8 10 12 24 ∷ call 0 0 Full 9 13 13 noMoment ∷ []))
+    ∷ accepted 2 1 (emptied (call 0 0 Pushed 8 9 11 22 ∷ call 1 1 BottomNil 0 12 12 24 ∷ call 0 0 Full 9 13 13 noMoment ∷ []))
+    -- a pop after the FULL does not count, nor does a top pop
+    ∷ accepted 1 1 (call 0 0 Pushed 7 0 2 4 ∷ call 0 0 Full 8 3 3 noMoment ∷ call 0 0 BottomNode 7 4 9 10 ∷ call 0 0 BottomNil 0 10 10 20 ∷ [])
+    ∷ accepted 2 1 (call 0 0 Pushed 7 0 2 4 ∷ call 1 0 TopNode 7 3 6 12 ∷ call 0 0 Full 8 7 7 noMoment ∷ [])
     -- 11 for the head and for the entries, 13
     ∷ of [] 11 0
     ∷ of (2 ∷ 1 ∷ 4 ∷ 0 ∷ []) 11 0

@@ -4,7 +4,6 @@ use borrow.Author.Needs.{needs}
 use Rattle.log.specs.Decode.{entryAt}
 use Rattle.log.specs.declared.Entry.{Entry}
 use Rattle.rules.specs.Judge.{first3, first4, first5}
-use Rattle.rules.proofs.KeptLaws.{moments-of}
 use Rattle.rules.proofs.VerdictLaws.{pass, says0, says3, says4, says5, says6}
 use Rattle.judge.specs.inner.Order.{Ordered}
 use Rattle.judge.proofs.moment_rules.Statement.{statement}
@@ -66,9 +65,8 @@ returns-3 c =
 
 first-unfilled-requires : tie.Need-first-unfilled-requires
 first-unfilled-requires c κs =
-    let e3 = c .before .before .before .before .before .before in
-    let s = start1 e3 in
-    (s .pre .0, record { fields = s .pre .1; order = s .pre .2; moments = moments-of (log-of s) (s .args .n) (kept3 e3) }, s .pre .3)
+    let s = start1 (c .before .before .before .before .before .before) in
+    (s .pre .0, s .pre .1, s .pre .3)
 
 returns-4 : tie.Need-returns-4
 returns-4 c =

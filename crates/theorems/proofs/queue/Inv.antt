@@ -22,7 +22,7 @@ use Rattle.runfile.specs.declared.Call.the-variants.{Push}
 use Rattle.rules.specs.Accepted.{TopIs, BottomIs}
 use Rattle.rules.specs.Contents.{bears}
 use Rattle.theorems.proofs.queue.Content.{content, Free}
-use Rattle.base.proofs.Lists.{In}
+use Rattle.base.specs.Lists.{In}
 use Rattle.theorems.proofs.queue.Memory.{Memory, lim, until}
 
 -- what holds at the owner's stage; nd is the node that its call pushes

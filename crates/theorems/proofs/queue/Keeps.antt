@@ -7,7 +7,7 @@ use lib.ListN.{getD}
 use Rattle.log.specs.declared.Entry.{Entry}
 use Rattle.word.specs.declared.Stage.{Stage}
 use Rattle.word.specs.declared.Stage.the-variants.{Idle, P1, P2, P3, T1, T2, T3, T4, B1, B2, B3, B4, B5, B6, B7}
-use Rattle.base.proofs.Lists.{In}
+use Rattle.base.specs.Lists.{In}
 use Rattle.theorems.proofs.queue.Memory.{Memory}
 use Rattle.theorems.proofs.queue.Inv.{Cause, empty, taken, AtTop, Seen, Reach, Why, hit, age, Rely, Change, still, void, took, Edge, old, new}
 

@@ -13,7 +13,9 @@ use Rattle.word.specs.declared.Word.{Word}
 use Rattle.log.specs.declared.Entry.{Entry}
 use Rattle.runs.specs.Moment.{Ended, Nothing, ends}
 use Rattle.runs.specs.State.{State, queueAt}
-use Rattle.runs.specs.Turn.{entriesIn}
+use Rattle.runfile.specs.declared.Call.{Call}
+use Rattle.runfile.specs.declared.Call.the-variants.{Push, Pop, Take}
+use Rattle.runs.specs.Turn.{firstStage, entriesIn}
 use Rattle.base.proofs.Cases.{never}
 use Rattle.runs.proofs.KindLaws.{isOwn}
 use Rattle.runs.proofs.Sound.{slotsAt}
@@ -62,6 +64,11 @@ lim bottom (B4 b x) = b
 lim bottom (B5 b x t g) = b
 lim bottom (B6 b x t g) = b
 lim bottom (B7 b x t g) = b
+
+pub first-lim : (call : Call) (b : ℕ) → lim b (firstStage call) ≡ b
+first-lim (Push node) b = refl
+first-lim Pop b = refl
+first-lim (Take q) b = refl
 
 -- where the nodes of the queue end
 abbrev pub until : ℕ → Stage → ℕ

@@ -30,7 +30,7 @@ use Rattle.runs.proofs.KindLaws.{isPush, isTop, isOwn, Within, within, first-qu
 use Rattle.runs.proofs.Sound.{Sizes, Fit, processes, slotsAt, Sound, Was, goes, begins, Steps, rowAt}
 use Rattle.base.specs.Lists.{All}
 use Rattle.base.proofs.Lists.{all-snoc, all-map}
-use Rattle.theorems.proofs.queue.Memory.{Memory, memoryAt, memoryAfter, asOwner, as-popped, lim, logAfter}
+use Rattle.theorems.proofs.queue.Memory.{Memory, memoryAt, memoryAfter, asOwner, as-popped, lim, first-lim, logAfter}
 use Rattle.theorems.proofs.queue.Inv.{Control, QueueOk, Change, still, void, took, Edge, old, new, Grow, same, more, Turn, view, AtTop}
 use Rattle.theorems.proofs.queue.OwnerTurn.{owner-turn}
 use Rattle.theorems.proofs.queue.ThiefTurn.{thief-turn}
@@ -243,11 +243,6 @@ module _ (f : Sizes) (w : Fit f) (s : State) (v : Sound f s) (h : Inv f s) (p : 
         first (Push node) i = let c = idle-ok .ctl in record { ctl = record { fits = c .fits; len = c .len; top-le = c .top-le; at = refl }; now-on = idle-ok .now-on; held = never }
         first Pop i = let c = idle-ok .ctl in record { ctl = record { fits = c .fits; len = c .len; top-le = c .top-le; at = tt }; now-on = idle-ok .now-on; held = never }
         first (Take q) i = never i
-
-    pub first-lim : (call : Call) (b : ℕ) → lim b (firstStage call) ≡ b
-    first-lim (Push node) b = refl
-    first-lim Pop b = refl
-    first-lim (Take q) b = refl
 
     -- before the step the queue saw its owner so, or idle where the call begins
     turn-was : (r : Process) → Was f s p r → isOwn (r .stage) ≡ true → (q : ℕ) → q ≡ p

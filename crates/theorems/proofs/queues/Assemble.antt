@@ -16,8 +16,8 @@ use Rattle.runs.specs.State.{Process, Queue, State, fresh, nobody, queueAt, pro
 use Rattle.runs.specs.Turn.{processAfter, queueAfter, ending, acted}
 use Rattle.base.proofs.Cases.{if-set}
 use Rattle.runs.proofs.Sound.{Sizes, Fit, processes, slotsAt, Sound, Steps, rowAt}
-use Rattle.base.specs.Lists.{All, Pairs}
-use Rattle.base.proofs.Lists.{In, all-snoc, all-map, all-in, in-all, pairs-snoc}
+use Rattle.base.specs.Lists.{In, All, Pairs}
+use Rattle.base.proofs.Lists.{all-snoc, all-map, all-in, in-all, pairs-snoc}
 use Rattle.theorems.proofs.queue.Memory.{Memory, memoryAt, memoryAfter, logAfter, log-after}
 use Rattle.theorems.proofs.queue.Inv.{still, old, Rely, Grow, same, more, NewOk, Fine, Turn, view, pending}
 use Rattle.theorems.proofs.queue.Keeps.{thief-keeps}

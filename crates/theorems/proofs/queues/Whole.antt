@@ -19,8 +19,8 @@ use Rattle.runs.specs.State.{Process, State, processAt}
 use Rattle.rules.specs.Contents.{bears}
 use Rattle.runs.proofs.KindLaws.{isOwn}
 use Rattle.runs.proofs.Sound.{Sizes, processes}
-use Rattle.base.specs.Lists.{All, Pairs}
-use Rattle.base.proofs.Lists.{In, all-map, in-snoc}
+use Rattle.base.specs.Lists.{In, All, Pairs}
+use Rattle.base.proofs.Lists.{all-map, in-snoc}
 use Rattle.theorems.proofs.queue.Content.{Free, content, add-other}
 use Rattle.theorems.proofs.queue.Memory.{Memory, memoryAt, asOwner}
 use Rattle.theorems.proofs.queue.Inv.{QueueOk, Fine, Right, Grow, same, more, view, AtTop}

@@ -1,126 +1,172 @@
--- Rule 6 by itself: a queue's bottom is at most the done pushes on it, so FULL has C of them before it.
-use Prim.Native.Nat.{ℕ, zero, suc, _+_, _-_, _*_, _≤_, _<_}
+-- Rule 6 by itself. Since the owner's latest NIL bottom pop, a queue's bottom is at most its done pushes less its node-giving bottom pops, with
+-- the b of an owner past B2 in the bottom's place, since its pop is not in the log yet. So a FULL has its C.
+use Prim.Native.Nat.{ℕ, zero, suc, _+_, _-_, _≤_, _<_}
 use mathlib.Core.Path.{_≡_, refl, sym, ap, _∙_, subst}
-use mathlib.Core.Bool.{Bool, true, false, cond, _&&_}
+use mathlib.Core.Bool.{Bool, true, false, cond, and-false}
 use mathlib.Core.List.{List, [], _∷_, _++_}
+use native.Mathlib.Decide.{decLt}
 use native.Mathlib.Omega.{arith}
 use native.Mathlib.Numerals.{add-one}
-use lib.Dec.{ltb, eqb}
-use lib.ListN.{length, getD, length-append, getD-replicate, List·getD-append}
-use borrow.Author.Tests.{ltb-true, lt-ltb, eq-eqb}
+use lib.Dec.{eqb, leb}
+use lib.ListN.{length, length-append, getD-replicate, List·getD-append}
+use borrow.Author.Tests.{eq-eqb, ne-eqb}
 use Rattle.log.specs.Decode.{noEntry}
-use Rattle.log.specs.Numbers.{what, same, noMoment}
+use Rattle.log.specs.Numbers.{what, same}
 use Rattle.log.specs.declared.Entry.{Entry}
+use Rattle.log.specs.declared.What.{What}
 use Rattle.log.specs.declared.What.the-variants.{Pushed, Full, BottomNode, BottomNil, TopNode, TopNil}
-use Rattle.base.proofs.Cases.{either-way, if-eq, if-lt, ever, if-le, if-set}
+use Rattle.base.proofs.Cases.{either-way, never, ever, if-eq, if-lt, if-le, if-set}
+use Rattle.base.proofs.Bools.{or-l}
+use Rattle.queue.specs.Step.{loadedSlot, loaded, stageAfter}
 use Rattle.queue.specs.declared.Next.{Next}
 use Rattle.queue.specs.declared.Next.the-variants as next
+use Rattle.word.specs.Stages.{rowNumber}
 use Rattle.word.specs.declared.Stage.{Stage}
 use Rattle.word.specs.declared.Stage.the-variants.{Idle, P1, P2, P3, T1, T2, T3, T4, B1, B2, B3, B4, B5, B6, B7}
 use Rattle.queue.specs.declared.Stepped.{Stepped}
-use Rattle.runs.specs.Moment.{queueOf, pushedNode, isTake, entry, nilMoment, takeMoment}
-use Rattle.runs.specs.State.{Process, Queue, State, fresh, queueAt, processAt}
+use Rattle.runs.specs.Moment.{queueOf, pushedNode, isTake}
+use Rattle.runs.specs.State.{Process, Queue, State, fresh, queueAt}
 use Rattle.runs.specs.Turn.{queueAfter, ending, acted, idle}
-use Rattle.base.proofs.Bools.{and-i, and-0, and-1}
-use Rattle.rules.specs.Rules.{pushedOn, donePushes}
-use Rattle.rules.specs.Search.{count}
-use Rattle.rules.proofs.SearchLaws.{count-mono}
+use Rattle.rules.specs.Rules.{did, since}
 use Rattle.theorems.proofs.queue.Cases.{if-age}
-use Rattle.runs.proofs.KindLaws.{isOwn, isFirst}
-use Rattle.runs.proofs.Sound.{Sizes, Fit, Fresh, processes, Sound, Was, goes, begins, Steps, rowAt}
-use Rattle.base.specs.Lists.{All}
-use Rattle.base.proofs.Lists.{all-snoc, all-map}
+use Rattle.runs.proofs.KindLaws.{isPush, isOwn, Gives, gives}
+use Rattle.runs.proofs.Sound.{Sizes, Fit, Fresh, processes, Sound, Was, goes, begins, Steps, rowAt, slotsAt}
 use Rattle.theorems.proofs.queue.Content.{at}
-use Rattle.theorems.proofs.queue.Memory.{Memory, memoryAt, rowIn, logAfter, log-after}
-use Rattle.theorems.proofs.queue.Inv.{Control}
-use Rattle.theorems.proofs.queues.Whole.{Inv}
-use Rattle.theorems.proofs.queues.Act.{own-ok, here}
+use Rattle.theorems.proofs.queue.Memory.{Memory, memoryAt, rowIn, asOwner, lim, first-lim, logAfter, log-after}
+use Rattle.theorems.proofs.queue.Inv.{AtOwner, Control}
+use Rattle.theorems.proofs.queues.Whole.{Seat, seatOf, seat, Inv}
+use Rattle.theorems.proofs.queues.Assemble.{at-record}
+use Rattle.theorems.proofs.queues.Act.{as-own, own-ok, here, no-top, take, seats}
 
--- done pushes on q with moments below m
-abbrev pub pushesOn : List Entry → ℕ → ℕ → ℕ
-pushesOn l q m = donePushes (at l) (length l) q m
+-- how many calls of the log did w, on queue q, after its latest NIL bottom pop
+abbrev pub counted : What → List Entry → ℕ → ℕ
+counted w l q = since w (at l) q (length l)
 
-count-same : (p r : ℕ → Bool) (n : ℕ) → ((i : ℕ) → i < n → p i ≡ r i) → count p n ≡ count r n
-count-same p r zero h = refl
-count-same p r (suc n) h = rw (h n (omega arith), count-same p r n (λ i lt. h i (omega arith)))
+-- the pushes are enough for the pops and x more
+abbrev RoomFor : List Entry → ℕ → ℕ → Type 0
+RoomFor l q x = x + counted BottomNode l q ≤ counted Pushed l q
 
-at-last : (l : List Entry) (e : Entry) → at (l ++ (e ∷ [])) (length l) ≡ e
-at-last [] e = refl
-at-last (d ∷ l) e = at-last l e
-
-pushes-snoc : (l : List Entry) (e : Entry) (q m : ℕ) → pushesOn (l ++ (e ∷ [])) q m ≡ cond (pushedOn q m e) (pushesOn l q m + 1) (pushesOn l q m)
-pushes-snoc l e q m =
-    ap (λ (n : ℕ). donePushes (at (l ++ (e ∷ []))) n q m) (length-append l (e ∷ []) ∙ add-one (length l))
-    ∙ ap (λ (n : ℕ). cond (pushedOn q m (at (l ++ (e ∷ [])) (length l))) (n + 1) n) (count-same (λ i. pushedOn q m (at (l ++ (e ∷ [])) i))
-    (λ i. pushedOn q m (at l i)) (length l) (λ i lt. ap (pushedOn q m) (List·getD-append l (e ∷ []) noEntry i lt)))
-    ∙ ap (λ (x : Entry). cond (pushedOn q m x) (pushesOn l q m + 1) (pushesOn l q m)) (at-last l e)
-
-pushes-more : (l : List Entry) (e : Entry) (q m : ℕ) → pushesOn l q m ≤ pushesOn (l ++ (e ∷ [])) q m
-pushes-more l e q m = subst (λ (n : ℕ). pushesOn l q m ≤ n) (sym (pushes-snoc l e q m)) (either-way (λ (n : ℕ). pushesOn l q m ≤ n) (pushedOn q m e)
-    (λ _. omega arith) (λ _. omega arith))
-
-pushes-later : (l : List Entry) (q m n : ℕ) → m ≤ n → pushesOn l q m ≤ pushesOn l q n
-pushes-later l q m n h = count-mono (λ i. pushedOn q m (at l i)) (λ i. pushedOn q n (at l i)) (length l) (λ i t.
-    let a = same Pushed (what (at l i)) && eqb (at l i .queue) q in
-    and-i (and-0 a (ltb (at l i .moment) m) t) (lt-ltb (at l i .moment) n (omega (arith, ltb-true (at l i .moment) m (and-1 a (ltb (at l i .moment) m) t)))))
-
-le-trans : {x y z : ℕ} → x ≤ y → y ≤ z → x ≤ z
-le-trans a b = omega arith
-
--- what a step does to the bottom
-abbrev pub Stock : ℕ → ℕ → Stage → ℕ → Next → Type 0
-Stock C bottom z b (next.Going y) = b ≤ bottom
-Stock C bottom z b next.Done = b ≤ bottom + 1
-Stock C bottom z b (next.Node x) = b ≤ bottom
-Stock C bottom z b next.Nil = b ≤ bottom
-Stock C bottom z b next.Full = (b ≤ bottom) × (bottom ≡ C) × (isFirst z ≡ true)
-Stock C bottom z b next.Refused = b ≤ bottom
-
-abbrev pub StockBy : ℕ → ℕ → Stage → Stepped → Type 0
-StockBy C bottom z o = Stock C bottom z (o .word .bottom) (o .next)
-
-pub stock : (W C nd : ℕ) (m : Memory) (z : Stage) → (isOwn z ≡ true → Control C nd m z) → StockBy C (m .word .bottom) z (rowIn W C m z)
-stock W C nd m Idle h = omega arith
-stock W C nd m (P1 x) h = if-eq (StockBy C (m .word .bottom) (P1 x)) (m .word .bottom) C (λ e. (omega arith, e, refl)) (λ e. omega arith)
-stock W C nd m (P2 x b) h = omega arith
-stock W C nd m (P3 b) h = let u = h refl in omega arith
-stock W C nd m T1 h = omega arith
-stock W C nd m (T2 t g) h = if-le (StockBy C (m .word .bottom) (T2 t g)) (m .word .bottom) t (λ e. omega arith) (λ e. omega arith)
-stock W C nd m (T3 t g b) h = omega arith
-stock W C nd m (T4 t g b x) h = if-age (StockBy C (m .word .bottom) (T4 t g b x)) (m .word) t g (λ e d. omega arith) (λ e. omega arith)
-stock W C nd m B1 h = if-eq (StockBy C (m .word .bottom) B1) (m .word .bottom) 0 (λ e. omega arith) (λ e. omega arith)
-stock W C nd m (B2 b) h = let u = h refl in omega arith
-stock W C nd m (B3 b) h = omega arith
-stock W C nd m (B4 b x) h = if-lt (StockBy C (m .word .bottom) (B4 b x)) (m .word .top) (b - 1) (λ e. omega arith) (λ e. omega arith)
-stock W C nd m (B5 b x t g) h = omega arith
-stock W C nd m (B6 b x t g) h = if-age (StockBy C (m .word .bottom) (B6 b x t g)) (m .word) t g (λ e d. omega arith) (λ e. omega arith)
-stock W C nd m (B7 b x t g) h = omega arith
-
--- rule 6 of an entry
-abbrev Holds : ℕ → List Entry → Entry → Type 0
-Holds C l e = what e ≡ Full → C ≤ pushesOn l (e .queue) (2 * e .start)
+-- rule 6 of entry i
+abbrev Filled : ℕ → (ℕ → Entry) → ℕ → Type 0
+Filled C g i = what (g i) ≡ Full → C + since BottomNode g (g i .queue) i ≤ since Pushed g (g i .queue) i
 
 pub record Room (f : Sizes) (s : State) : Type 0 where
-  pub room : (q : ℕ) → q < processes f → queueAt (s .bench) q .word .bottom ≤ pushesOn (s .log) q (2 * s .bench .steps)
-  pub fulls : All (λ (e : Entry). what e ≡ Full → f .size ≤ pushesOn (s .log) (e .queue) (2 * e .start)) (s .log)
+  pub room : (q : ℕ) → q < processes f → RoomFor (s .log) q (lim (queueAt (s .bench) q .word .bottom) (seat s q .stage))
+  pub fulls : (i : ℕ) → i < length (s .log) → Filled (f .size) (at (s .log)) i
+
+-- the log with one entry more
+since-same : (w : What) (g h : ℕ → Entry) (q j : ℕ) → ((i : ℕ) → i < j → h i ≡ g i) → since w h q j ≡ since w g q j
+since-same w g h q zero e = refl
+since-same w g h q (suc j) e = rw (e j (omega arith), since-same w g h q j (λ i u. e i (omega arith)))
+
+module _ (l : List Entry) (e : Entry) where
+  abbrev l⁺ : List Entry
+  l⁺ = l ++ (e ∷ [])
+
+  at-old : (i : ℕ) → i < length l → at l⁺ i ≡ at l i
+  at-old i u = List·getD-append l (e ∷ []) noEntry i u
+
+  at-new : at l⁺ (length l) ≡ e
+  at-new = last l
+    where
+      last : (l : List Entry) → at (l ++ (e ∷ [])) (length l) ≡ e
+      last [] = refl
+      last (d ∷ l) = last l
+
+  one-more : length l⁺ ≡ suc (length l)
+  one-more = length-append l (e ∷ []) ∙ add-one (length l)
+
+  before-it : (w : What) (q : ℕ) → since w (at l⁺) q (length l) ≡ counted w l q
+  before-it w q = since-same w (at l) (at l⁺) q (length l) at-old
+
+  counted-more : (w : What) (q : ℕ) → counted w l⁺ q ≡ cond (did BottomNil q e) 0 (cond (did w q e) (counted w l q + 1) (counted w l q))
+  counted-more w q = rw (one-more, at-new, before-it w q)
+
+  -- by what the entry did
+  room-after : (q x : ℕ) {s t u : Bool} → did BottomNil q e ≡ s → did BottomNode q e ≡ t → did Pushed q e ≡ u
+      → x + cond s 0 (cond t (counted BottomNode l q + 1) (counted BottomNode l q)) ≤ cond s 0 (cond u (counted Pushed l q + 1) (counted Pushed l q))
+      → RoomFor l⁺ q x
+  room-after q x a b c h = rw (counted-more BottomNode q, counted-more Pushed q, a, b, c) h
+
+  -- a call on another queue
+  room-else : (q x : ℕ) → (e .queue ≡ q → ⊥) → RoomFor l q x → RoomFor l⁺ q x
+  room-else q x d h = room-after q x (no BottomNil) (no BottomNode) (no Pushed) h
+    where
+      no : (w : What) → did w q e ≡ false
+      no w = rw (ne-eqb (e .queue) q d, and-false (same w (what e)))
+
+  filled-after : (C : ℕ) → ((i : ℕ) → i < length l → Filled C (at l) i) → (what e ≡ Full → RoomFor l (e .queue) C)
+      → (i : ℕ) → i < length l⁺ → Filled C (at l⁺) i
+  filled-after C old new i u = split (decLt i (length l))
+    where
+      split : Dec (i < length l) → Filled C (at l⁺) i
+      split (yes v) =
+          let same-to : (w : What) → since w (at l⁺) (at l i .queue) i ≡ since w (at l) (at l i .queue) i =
+          λ w. since-same w (at l) (at l⁺) (at l i .queue) i (λ k x. at-old k (omega arith)) in
+          rw (at-old i v, same-to BottomNode, same-to Pushed) (old i v)
+      split (no v) =
+          let z : i ≡ length l = omega (arith, one-more) in
+          rw (z, at-new, before-it BottomNode (e .queue), before-it Pushed (e .queue)) new
+
+-- what a step of the owner's makes of a: the bottom, or the b of an owner past B2. The bottom is b after it
+abbrev Stock : ℕ → ℕ → ℕ → Next → Type 0
+Stock C a b (next.Going y) = lim b y ≤ a
+Stock C a b next.Done = b ≤ a + 1
+Stock C a b (next.Node x) = b + 1 ≤ a
+Stock C a b next.Nil = b ≡ 0
+Stock C a b next.Full = (b ≤ a) × (a ≡ C)
+Stock C a b next.Refused = b ≤ a
+
+abbrev StockBy : ℕ → ℕ → Stepped → Type 0
+StockBy C a o = Stock C a (o .word .bottom) (o .next)
+
+stock : (W C nd : ℕ) (m : Memory) (z : Stage) → isOwn z ≡ true → Control C nd m z → StockBy C (lim (m .word .bottom) z) (rowIn W C m z)
+stock W C nd m Idle i h = never i
+stock W C nd m (P1 x) i h = if-eq (StockBy C (m .word .bottom)) (m .word .bottom) C (λ e. (omega arith, e)) (λ e. omega arith)
+stock W C nd m (P2 x b) i h = omega arith
+stock W C nd m (P3 b) i h = omega (arith, h .at .0)
+stock W C nd m T1 i h = never i
+stock W C nd m (T2 t g) i h = never i
+stock W C nd m (T3 t g b) i h = never i
+stock W C nd m (T4 t g b x) i h = never i
+stock W C nd m B1 i h = if-eq (StockBy C (m .word .bottom)) (m .word .bottom) 0 (λ e. e) (λ e. omega arith)
+stock W C nd m (B2 b) i h = omega (arith, h .at .0)
+stock W C nd m (B3 b) i h = omega arith
+stock W C nd m (B4 b x) i h = if-lt (StockBy C b) (m .word .top) (b - 1) (λ e. omega (arith, h .at .0)) (λ e. omega arith)
+stock W C nd m (B5 b x t g) i h = either-way (λ (y : Stage). lim 0 y ≤ b) (eqb (b - 1) t) (λ e. omega arith) (λ e. omega arith)
+stock W C nd m (B6 b x t g) i h = if-age (StockBy C b) (m .word) t g (λ e d. omega (arith, h .at .0, h .at .3)) (λ e. omega arith)
+stock W C nd m (B7 b x t g) i h = h .at .0
+
+-- a step of a top pop leaves the bottom
+aside : (W C : ℕ) (m : Memory) (z : Stage) → isOwn z ≡ false → rowIn W C m z .word .bottom ≡ m .word .bottom
+aside W C m Idle i = refl
+aside W C m (P1 x) i = ever i
+aside W C m (P2 x b) i = ever i
+aside W C m (P3 b) i = ever i
+aside W C m T1 i = refl
+aside W C m (T2 t g) i = if-le (λ (o : Stepped). o .word .bottom ≡ m .word .bottom) (m .word .bottom) t (λ e. refl) (λ e. refl)
+aside W C m (T3 t g b) i = refl
+aside W C m (T4 t g b x) i = if-age (λ (o : Stepped). o .word .bottom ≡ m .word .bottom) (m .word) t g (λ e d. refl) (λ e. refl)
+aside W C m B1 i = ever i
+aside W C m (B2 b) i = ever i
+aside W C m (B3 b) i = ever i
+aside W C m (B4 b x) i = ever i
+aside W C m (B5 b x t g) i = ever i
+aside W C m (B6 b x t g) i = ever i
+aside W C m (B7 b x t g) i = ever i
 
 pub room-idle : (f : Sizes) (s : State) → Sound f s → Inv f s → Room f s → Room f (idle s)
-room-idle f s v h j = record {
-  room = λ q lt. omega (
-    arith,
-    j .room q lt,
-    pushes-later (s .log) q (2 * s .bench .steps) (2 * (s .bench .steps + 1))
-        (omega arith),
-  );
-  fulls = j .fulls;
-}
+room-idle f s v h j = record { room = j .room; fulls = j .fulls }
 
 pub room-fresh : (f : Sizes) → Fit f → (s : State) → Fresh f s → Room f s
 room-fresh f w s z = record {
-  room = λ q lt. subst (λ (l : List Queue). getD l q fresh .word .bottom ≤ pushesOn (s .log) q (2 * s .bench .steps)) (sym (z .queues))
-      (rw (getD-replicate 8 q fresh fresh (omega (arith, w .processes))) (omega arith));
-  fulls = subst (λ (l : List Entry). All (λ (e : Entry). what e ≡ Full → f .size ≤ pushesOn (s .log) (e .queue) (2 * e .start)) l) (sym (z .log)) tt;
+  room = λ q lt. subst (λ (l : List Entry). RoomFor l q (lim (queueAt (s .bench) q .word .bottom) (seat s q .stage))) (sym (z .log))
+      (rw (z .idle q, z .queues, getD-replicate 8 q fresh fresh (omega (arith, w .processes))) (omega arith));
+  fulls = subst (λ (l : List Entry). (i : ℕ) → i < length l → Filled (f .size) (at l) i) (sym (z .log)) (λ i u. absurd (omega arith));
 }
+
+other : {A : Type 0} (w : What) → same Full w ≡ false → w ≡ Full → A
+other w d e = never (sym d ∙ ap (same Full) e)
 
 module _ (f : Sizes) (w : Fit f) (s : State) (v : Sound f s) (h : Inv f s) (j : Room f s) (p : ℕ) (r : Process) (k : Steps f s p r) where
   abbrev q : ℕ
@@ -138,80 +184,163 @@ module _ (f : Sizes) (w : Fit f) (s : State) (v : Sound f s) (h : Inv f s) (j : 
   abbrev logged : Next → List Entry
   logged x = logAfter l (ending p r (s .bench) x)
 
-  stocked : Stock (f .size) (queueAt (s .bench) q .word .bottom) (r .stage) (o .word .bottom) (o .next)
-  stocked = stock (f .width) (f .size) (pushedNode (r .call)) (memoryAt s q) (r .stage)
-      (λ i. subst (λ (a : ℕ). Control (f .size) (pushedNode (r .call)) (memoryAt s a) (r .stage)) (sym (here f w s v h p r k i))
-      (own-ok f w s v h p r k i r (k .was) i .ctl))
+  -- the new entry is on q
+  else-after : (x : Next) (a y : ℕ) → (q ≡ a → ⊥) → RoomFor l a y → RoomFor (logged x) a y
+  else-after (next.Going z) a y d g = g
+  else-after next.Done a y d g = room-else l _ a y d g
+  else-after (next.Node x) a y d g =
+      either-way (λ (e : Entry). RoomFor (l ++ (e ∷ [])) a y) (isTake (r .call)) (λ _. room-else l _ a y d g) (λ _. room-else l _ a y d g)
+  else-after next.Nil a y d g =
+      either-way (λ (e : Entry). RoomFor (l ++ (e ∷ [])) a y) (isTake (r .call)) (λ _. room-else l _ a y d g) (λ _. room-else l _ a y d g)
+  else-after next.Full a y d g = room-else l _ a y d g
+  else-after next.Refused a y d g = g
 
-  -- at the same instant the log has as many pushes, and later more
-  same-up : (x : Next) (a m : ℕ) → pushesOn l a m ≤ pushesOn (logged x) a m
-  same-up (next.Going z) a m = omega arith
-  same-up next.Done a m = pushes-more l _ a m
-  same-up (next.Node x) a m = pushes-more l _ a m
-  same-up next.Nil a m = pushes-more l _ a m
-  same-up next.Full a m = pushes-more l _ a m
-  same-up next.Refused a m = omega arith
+  -- and is a FULL where the step gives one
+  abbrev Fulls : List Entry → Type 0
+  Fulls l = (i : ℕ) → i < length l → Filled (f .size) (at l) i
 
-  grows : (x : Next) (a : ℕ) → pushesOn l a (2 * n) ≤ pushesOn (logged x) a (2 * (n + 1))
-  grows x a = le-trans (pushes-later l a (2 * n) (2 * (n + 1)) (omega arith)) (same-up x a (2 * (n + 1)))
+  full-after : (e : Entry) → (what e ≡ Full → RoomFor l (e .queue) (f .size)) → Fulls (l ++ (e ∷ []))
+  full-after e g = filled-after l e (f .size) (j .fulls) g
 
-  one-more : pushesOn l q (2 * n) + 1 ≤ pushesOn (logged next.Done) q (2 * (n + 1))
-  one-more =
-      let e : Entry = entry p n r Pushed (pushedNode (r .call)) (2 * n) in
-      let t : pushedOn q (2 * (n + 1)) e ≡ true = and-i (eq-eqb q q refl) (lt-ltb (2 * n) (2 * (n + 1)) (omega arith)) in
-      subst (λ (x : ℕ). pushesOn l q (2 * n) + 1 ≤ x) (sym (pushes-snoc l e q (2 * (n + 1)) ∙ ap
-      (λ (b : Bool). cond b (pushesOn l q (2 * (n + 1)) + 1) (pushesOn l q (2 * (n + 1)))) t))
-      (omega (arith, pushes-later l q (2 * n) (2 * (n + 1)) (omega arith)))
+  fulls-after : (x : Next) → (x ≡ next.Full → RoomFor l q (f .size)) → Fulls (logged x)
+  fulls-after (next.Going z) g = j .fulls
+  fulls-after next.Done g = full-after _ (other Pushed refl)
+  fulls-after (next.Node x) g =
+      either-way (λ (e : Entry). Fulls (l ++ (e ∷ []))) (isTake (r .call)) (λ _. full-after _ (other TopNode refl)) (λ _. full-after _ (other BottomNode refl))
+  fulls-after next.Nil g =
+      either-way (λ (e : Entry). Fulls (l ++ (e ∷ []))) (isTake (r .call)) (λ _. full-after _ (other TopNil refl)) (λ _. full-after _ (other BottomNil refl))
+  fulls-after next.Full g = full-after _ (λ _. g refl)
+  fulls-after next.Refused g = j .fulls
 
-  room-here : (x : Next) (b : ℕ) → Stock (f .size) (queueAt (s .bench) q .word .bottom) (r .stage) b x → b ≤ pushesOn (logged x) q (2 * (n + 1))
-  room-here (next.Going z) b g = omega (arith, j .room q (k .placed .queue), grows (next.Going z) q)
-  room-here next.Done b g = omega (arith, j .room q (k .placed .queue), one-more)
-  room-here (next.Node x) b g = omega (arith, j .room q (k .placed .queue), grows (next.Node x) q)
-  room-here next.Nil b g = omega (arith, j .room q (k .placed .queue), grows next.Nil q)
-  room-here next.Full b g = omega (arith, g .0, j .room q (k .placed .queue), grows next.Full q)
-  room-here next.Refused b g = omega (arith, j .room q (k .placed .queue), grows next.Refused q)
+  abbrev RoomOf : List Entry → Type 0
+  RoomOf l′ = Room f (record { bench = acted p r s o .bench; slots = acted p r s o .slots; log = l′ })
 
-  -- a FULL is given at the first step of its call
-  at-first : (r : Process) → Was f s p r → isFirst (r .stage) ≡ true → r .start ≡ n
-  at-first r goes e = ever (sym e ∙ v .later p)
-  at-first r (begins _ _) e = refl
+  -- THE OWNER
+  module _ (i : isOwn (r .stage) ≡ true) where
+    no-take : isTake (r .call) ≡ false
+    no-take = k .placed .suits .own i
 
-  -- no other entry is a FULL
-  node-other : (owner : Process) (t x : ℕ) (b : Bool) → what (cond b (entry p n r TopNode x (takeMoment n owner t)) (entry p n r BottomNode x (2 * r .b2))) ≡ Full
-      → ⊥
-  node-other owner t x true e = let z : _≡_ {A = ℕ} 0 1 = cc in omega arith
-  node-other owner t x false e = let z : _≡_ {A = ℕ} 0 1 = cc in omega arith
+    -- the bottom, or the owner's b, before the step
+    abbrev a : ℕ
+    a = lim (queueAt (s .bench) q .word .bottom) (r .stage)
 
-  nil-other : (b : Bool) → what (cond b (entry p n r TopNil 0 noMoment) (entry p n r BottomNil 0 (nilMoment n r))) ≡ Full → ⊥
-  nil-other true e = let z : _≡_ {A = ℕ} 0 1 = cc in omega arith
-  nil-other false e = let z : _≡_ {A = ℕ} 0 1 = cc in omega arith
+    room-before : RoomFor l q a
+    room-before = was r (k .was) i (j .room q (k .placed .queue)) (here f w s v h p r k i)
+      where
+        was : (r : Process) → Was f s p r → isOwn (r .stage) ≡ true
+            → RoomFor (s .log) (queueOf p (r .call)) (lim (queueAt (s .bench) (queueOf p (r .call)) .word .bottom) (seat s (queueOf p (r .call)) .stage))
+            → queueOf p (r .call) ≡ p
+            → RoomFor (s .log) (queueOf p (r .call)) (lim (queueAt (s .bench) (queueOf p (r .call)) .word .bottom) (r .stage))
+        was r goes i g e =
+            let z = ap (λ (x : ℕ). seat s x .stage) e ∙ ap (λ (b : Bool). cond b (r .stage) Idle) i in
+            subst (λ (x : Stage). RoomFor (s .log) (queueOf p (r .call)) (lim (queueAt (s .bench) (queueOf p (r .call)) .word .bottom) x)) z g
+        was r (begins call z) i g e =
+            let b = queueAt (s .bench) (queueOf p call) .word .bottom in
+            let y = ap (λ (x : ℕ). seat s x .stage) e ∙ ap asOwner z in
+            subst (RoomFor (s .log) (queueOf p call)) (ap (lim b) y ∙ sym (first-lim call b)) g
 
-  done-other : Pushed ≡ Full → ⊥
-  done-other e = let z : _≡_ {A = ℕ} 0 1 = cc in omega arith
+    stocked : Stock (f .size) a (o .word .bottom) (o .next)
+    stocked = stock (f .width) (f .size) (pushedNode (r .call)) (memoryAt s q) (r .stage) i
+        (subst (λ (x : ℕ). Control (f .size) (pushedNode (r .call)) (memoryAt s x) (r .stage)) (sym (here f w s v h p r k i))
+        (own-ok f w s v h p r k i r (k .was) i .ctl))
 
-  earlier : (x : Next) → All (Holds (f .size) (logged x)) l
-  earlier x = all-map _ _ (λ e g d. le-trans (g d) (same-up x (e .queue) (2 * e .start))) l (j .fulls)
+    here-is : eqb q q ≡ true
+    here-is = eq-eqb q q refl
 
-  fulls-here : (x : Next) (b : ℕ) → Stock (f .size) (queueAt (s .bench) q .word .bottom) (r .stage) b x → All (Holds (f .size) (logged x)) (logged x)
-  fulls-here (next.Going z) b g = j .fulls
-  fulls-here next.Done b g = all-snoc _ l _ (earlier next.Done) (λ e. absurd (done-other e))
-  fulls-here (next.Node x) b g = all-snoc _ l _ (earlier (next.Node x)) (λ e. absurd (node-other (processAt (s .bench) q) (queueAt (s .bench) q .word .top) x
-      (isTake (r .call)) e))
-  fulls-here next.Nil b g = all-snoc _ l _ (earlier next.Nil) (λ e. absurd (nil-other (isTake (r .call)) e))
-  fulls-here next.Full b g = all-snoc _ l _ (earlier next.Full) (λ _.
-      subst (λ (a : ℕ). f .size ≤ pushesOn (logged next.Full) q (2 * a)) (sym (at-first r (k .was) (g .2)))
-      (omega (arith, g .1, j .room q (k .placed .queue), same-up next.Full q (2 * n))))
-  fulls-here next.Refused b g = j .fulls
+    room-here : (b : ℕ) (x : Next) → Stock (f .size) a b x → RoomFor (logged x) q (lim b (stageAfter x))
+    room-here b (next.Going y) g = omega (arith, room-before)
+    room-here b next.Done g = room-after l _ q b refl refl here-is (omega (arith, room-before))
+    room-here b (next.Node x) g = either-way (λ (e : Entry). RoomFor (l ++ (e ∷ [])) q b) (isTake (r .call)) (λ t. ever (sym t ∙ no-take))
+        (λ _. room-after l _ q b refl here-is refl (omega (arith, room-before)))
+    room-here b next.Nil g = either-way (λ (e : Entry). RoomFor (l ++ (e ∷ [])) q b) (isTake (r .call)) (λ t. ever (sym t ∙ no-take))
+        (λ _. room-after l _ q b here-is refl refl (omega arith))
+    room-here b next.Full g = room-after l _ q b refl refl refl (omega (arith, g .0, room-before))
+    room-here b next.Refused g = omega (arith, room-before)
+
+    full-here : o .next ≡ next.Full → RoomFor l q (f .size)
+    full-here e = subst (RoomFor l q) (subst (Stock (f .size) a (o .word .bottom)) e stocked .1) room-before
+
+    own-act : RoomOf (logged (o .next))
+    own-act = record {
+      room = λ b lt. if-set (λ (m : Queue). RoomFor (logged (o .next)) b (lim (m .word .bottom) (seat (acted p r s o) b .stage)))
+          (s .bench .queues) q b (queueAfter (queueAt (s .bench) q) o) fresh (omega (arith, k .placed .queue, v .queues, w .processes)) (mine b) (others b lt);
+      fulls = fulls-after (o .next) full-here;
+    }
+      where
+        seen : asOwner (stageAfter (o .next)) ≡ stageAfter (o .next)
+        seen = as-own (stageAfter (o .next)) (no-top f w s v h p r k i)
+
+        mine : (b : ℕ) → b ≡ q → RoomFor (logged (o .next)) b (lim (o .word .bottom) (seat (acted p r s o) b .stage))
+        mine b e = at-record f w s v h p r k (λ (z : Process). RoomFor (logged (o .next)) b (lim (o .word .bottom) (seatOf z .stage))) b
+            (λ _. subst (λ (z : Stage). RoomFor (logged (o .next)) b (lim (o .word .bottom) z)) (sym seen)
+            (subst (λ (c : ℕ). RoomFor (logged (o .next)) c (lim (o .word .bottom) (stageAfter (o .next)))) (sym e) (room-here (o .word .bottom) (o .next) stocked)))
+            (λ d. absurd (d (e ∙ here f w s v h p r k i)))
+
+        others : (b : ℕ) → b < processes f → (b ≡ q → ⊥)
+            → RoomFor (logged (o .next)) b (lim (queueAt (s .bench) b .word .bottom) (seat (acted p r s o) b .stage))
+        others b lt e = at-record f w s v h p r k (λ (z : Process). RoomFor (logged (o .next)) b (lim (queueAt (s .bench) b .word .bottom) (seatOf z .stage))) b
+            (λ d. absurd (e (d ∙ sym (here f w s v h p r k i)))) (λ _. else-after (o .next) b _ (λ d. e (sym d)) (j .room b lt))
+
+  -- A TOP POP
+  module _ (i : isOwn (r .stage) ≡ false) where
+    taking : isTake (r .call) ≡ true
+    taking = take f w s v h p r k i
+
+    no-push : isPush (r .stage) ≡ true → ⊥
+    no-push e = never (sym i ∙ or-l (isPush (r .stage)) (leb 8 (rowNumber (r .stage))) e)
+
+    -- it changes no count
+    top-after : (x : Next) → Gives (r .stage) x → (b y : ℕ) → RoomFor l b y → RoomFor (logged x) b y
+    top-after (next.Going z) g b y h = h
+    top-after next.Done g b y h = absurd (no-push g)
+    top-after (next.Node x) g b y h = either-way (λ (e : Entry). RoomFor (l ++ (e ∷ [])) b y) (isTake (r .call)) (λ _. room-after l _ b y refl refl refl h)
+        (λ t. ever (sym taking ∙ t))
+    top-after next.Nil g b y h = either-way (λ (e : Entry). RoomFor (l ++ (e ∷ [])) b y) (isTake (r .call)) (λ _. room-after l _ b y refl refl refl h)
+        (λ t. ever (sym taking ∙ t))
+    top-after next.Full g b y h = absurd (no-push g)
+    top-after next.Refused g b y h = h
+
+    given : Gives (r .stage) (o .next)
+    given = gives (f .width) (f .size) (queueAt (s .bench) q .word) (loaded (slotsAt s q) (loadedSlot (r .stage))) (r .stage)
+
+    thief-act : RoomOf (logged (o .next))
+    thief-act = record {
+      room = λ b lt. subst (λ (z : Stage). RoomFor (logged (o .next)) b (lim (queueAt (acted p r s o .bench) b .word .bottom) z))
+          (ap (λ (σ : Seat). σ .stage) (sym (seats f w s v h p r k i b)))
+          (if-set (λ (m : Queue). RoomFor (logged (o .next)) b (lim (m .word .bottom) (seat s b .stage))) (s .bench .queues) q b
+          (queueAfter (queueAt (s .bench) q) o) fresh (omega (arith, k .placed .queue, v .queues, w .processes))
+          (λ e. subst (λ (c : ℕ). RoomFor (logged (o .next)) b (lim c (seat s b .stage)))
+          (ap (λ (c : ℕ). queueAt (s .bench) c .word .bottom) e ∙ sym (aside (f .width) (f .size) (memoryAt s q) (r .stage) i))
+          (top-after (o .next) given b _ (j .room b lt)))
+          (λ e. top-after (o .next) given b _ (j .room b lt)));
+      fulls = fulls-after (o .next) (λ e. absurd (no-push (subst (Gives (r .stage)) e given)));
+    }
 
   pub room-act : Room f (acted p r s (rowAt f s p r))
-  room-act =
-      let here : Room f (record { bench = acted p r s o .bench; slots = acted p r s o .slots; log = logged (o .next) }) = record {
-        room = λ a lt. if-set (λ (m : Queue). m .word .bottom ≤ pushesOn (logged (o .next)) a (2 * (n + 1))) (s .bench .queues) q a
-            (queueAfter (queueAt (s .bench) q) o) fresh
-            (omega (arith, k .placed .queue, v .queues, w .processes))
-            (λ e. subst (λ (b : ℕ). o .word .bottom ≤ pushesOn (logged (o .next)) b (2 * (n + 1))) (sym e) (room-here (o .next) (o .word .bottom) stocked))
-            (λ e. le-trans (j .room a lt) (grows (o .next) a));
-        fulls = fulls-here (o .next) (o .word .bottom) stocked;
-      } in
-      subst (λ (x : List Entry). Room f (record { bench = acted p r s o .bench; slots = acted p r s o .slots; log = x }))
-      (sym (log-after l (ending p r (s .bench) (o .next)))) here
+  room-act = subst RoomOf (sym (log-after l (ending p r (s .bench) (o .next)))) (by (isOwn (r .stage)) refl)
+    where
+      by : (b : Bool) → isOwn (r .stage) ≡ b → RoomOf (logged (o .next))
+      by true i = own-act i
+      by false i = thief-act i
+
+-- a corollary: the bottom is at most the done pushes since the owner's latest NIL bottom pop, so at most all of them
+bottom-lim : (C nd : ℕ) (m : Memory) (z : Stage) → AtOwner C nd m z → m .word .bottom ≤ lim (m .word .bottom) z
+bottom-lim C nd m Idle h = omega arith
+bottom-lim C nd m (P1 x) h = omega arith
+bottom-lim C nd m (P2 x b) h = omega arith
+bottom-lim C nd m (P3 b) h = omega arith
+bottom-lim C nd m T1 h = omega arith
+bottom-lim C nd m (T2 t g) h = omega arith
+bottom-lim C nd m (T3 t g b) h = omega arith
+bottom-lim C nd m (T4 t g b x) h = omega arith
+bottom-lim C nd m B1 h = omega arith
+bottom-lim C nd m (B2 b) h = omega arith
+bottom-lim C nd m (B3 b) h = omega (arith, h .0)
+bottom-lim C nd m (B4 b x) h = omega (arith, h .0)
+bottom-lim C nd m (B5 b x t g) h = omega (arith, h .0)
+bottom-lim C nd m (B6 b x t g) h = omega (arith, h .0)
+bottom-lim C nd m (B7 b x t g) h = omega (arith, h .0)
+
+pub bottom-pushed : (f : Sizes) (s : State) → Inv f s → Room f s → (q : ℕ) → q < processes f → queueAt (s .bench) q .word .bottom ≤ counted Pushed (s .log) q
+bottom-pushed f s h j q lt =
+    omega (arith, j .room q lt, bottom-lim (f .size) (seat s q .node) (memoryAt s q) (seat s q .stage) (h .queues q lt .ctl .at))

@@ -22,6 +22,7 @@ use Rattle.runfile.specs.Encode.{InRanges}
 use Rattle.runfile.specs.File.{RunFile}
 use Rattle.runs.specs.State.{State, processAt}
 use Rattle.rules.specs.Accepted.{Rule1, Rule3, Rule4, EmptyIn, RemovedIn, Accepted}
+use Rattle.rules.proofs.Rule6Laws.{rule6-to}
 use Rattle.rules.specs.Contents.{bears, dropLast, dropFirst, applied, eventAt, before}
 use Rattle.runs.proofs.Scripts.{sizesOf}
 use Rattle.theorems.proofs.queues.Origins.{Origins, Differ, node-in as file-node}
@@ -230,7 +231,7 @@ module _ (f : RunFile) (w : InRanges f) (s : State) (h : Inv (sizesOf f) s) (j :
     rule4 = λ i lt. fourth-rule i lt (what (at l i)) refl (fine i lt .right);
     rule5 = λ i lt d. fifth-rule i lt (subst (Right l (nodesBy (at l i .queue) l (memoryAt s (at l i .queue)) (seat s (at l i .queue))) (at l i)) d
         (fine i lt .right));
-    rule6 = λ i lt d. all-at _ noEntry l (j .fulls) i lt d;
+    rule6 = λ i lt d. rule6-to (at l) (length l) (f .size) i lt (j .fulls i lt d);
   }
 
   -- and all fields fit their bytes
