@@ -3,6 +3,7 @@
 use crate::logs::Log;
 use crate::random::Random;
 use second::log::{Entry, BOTTOM_POP, DONE, FULL, NIL, NO_MOMENT, PUSH, TOP_POP};
+use std::collections::VecDeque;
 
 pub fn aimed_log(random: &mut Random) -> Log {
     match random.below(5) {
@@ -138,25 +139,37 @@ fn nil_beside_removal(random: &mut Random) -> Log {
     by_end(log)
 }
 
-/// Rule 6: a FULL after as many pushes as there are slots, one more or one fewer.
+/// Rule 6: a FULL after pushes, pops and NILs on its queue and beside it, of which as many count as there are slots, one more or one fewer.
 fn full_beside_pushes(random: &mut Random) -> Log {
-    let capacity = random.between(1, 6);
-    let count = capacity - 1 + random.below(3);
-    let mut log = pushes(random, count);
-    log.capacity = capacity as u8;
-    if let Some(last) = log.entries.last_mut() {
-        last.end += 1;
-        last.moment += random.below(4) as u16;
+    let mut log = pushes(random, 0);
+    let (mut nodes, mut count) = (VecDeque::new(), 0);
+    for place in 0..random.between(1, 9) as u16 {
+        let node = place + 1;
+        let mut entry = match random.below(9) {
+            0..=3 => call(0, PUSH, node, 2 * place),
+            4 | 5 => call(0, BOTTOM_POP, nodes.pop_back().unwrap_or(0), 2 * place),
+            6 => call(1, TOP_POP, nodes.pop_front().unwrap_or(0), 2 * place),
+            7 => call(1, BOTTOM_POP, 0, 2 * place),
+            _ => call(2, PUSH, node, 2 * place),
+        };
+        if entry.node == 0 {
+            entry.result = NIL;
+        }
+        match (entry.queue, entry.kind, entry.result) {
+            (0, PUSH, _) => {
+                nodes.push_back(node);
+                count += 1;
+            }
+            (0, BOTTOM_POP, DONE) => count -= 1,
+            (0, BOTTOM_POP, _) => count = 0,
+            (0, TOP_POP, NIL) => entry.moment = NO_MOMENT,
+            _ => {}
+        }
+        log.entries.push(entry);
     }
-    if random.one_in(3) && count > 0 {
-        let moved = random.below(count);
-        log.entries[moved].process = 1;
-        log.entries[moved].queue = 1;
-    }
-    let mut full = call(0, PUSH, 9, NO_MOMENT);
-    full.result = FULL;
-    full.start = count as u16 + random.pick(&[0, 1, 1, 1, 2]);
-    full.end = full.start + 1;
+    let mut full = call(0, PUSH, 99, 2 * log.entries.len() as u16);
+    (full.result, full.moment) = (FULL, NO_MOMENT);
     log.entries.push(full);
+    log.capacity = (count - 1 + random.below(3) as i32).max(1) as u8;
     log
 }

@@ -15,7 +15,7 @@ enum Call {
 
 struct World {
     queues: [VecDeque<u16>; 8],
-    pushes: [usize; 8],
+    pushes_less_pops: [i32; 8],
     calls: [Call; 8],
     step: u16,
     moments_used: u16,
@@ -31,7 +31,7 @@ struct World {
 pub fn invented_log(random: &mut Random) -> Log {
     let mut world = World {
         queues: Default::default(),
-        pushes: [0; 8],
+        pushes_less_pops: [0; 8],
         calls: [Call::None; 8],
         step: random.pick(&[0, 0, 0, 30000]),
         moments_used: 0,
@@ -95,7 +95,7 @@ impl World {
         } else {
             process
         };
-        let enough = self.pushes[queue] >= usize::from(self.log.capacity);
+        let enough = self.pushes_less_pops[queue] >= i32::from(self.log.capacity);
         let entry = Entry {
             process: process as u8,
             queue: queue as u8,
@@ -147,12 +147,12 @@ impl World {
         if entry.kind == PUSH {
             entry.node = self.next_node();
             entry.result = DONE;
-            self.pushes[queue] += 1;
+            self.pushes_less_pops[queue] += 1;
             self.queues[queue].push_back(entry.node);
             return;
         }
         let given = match entry.kind {
-            BOTTOM_POP => self.queues[queue].pop_back(),
+            BOTTOM_POP => self.pop(queue),
             _ => self.queues[queue].pop_front(),
         };
         entry.node = given.unwrap_or(0);
@@ -161,6 +161,14 @@ impl World {
         if removed_topmost {
             self.excuse_thieves(entry.queue);
         }
+    }
+
+    /// A bottom pop; the count that rule 6 asks for starts anew where it gives NIL.
+    fn pop(&mut self, queue: usize) -> Option<u16> {
+        let given = self.queues[queue].pop_back();
+        let count = &mut self.pushes_less_pops[queue];
+        *count = given.map_or(0, |_| *count - 1);
+        given
     }
 
     fn excuse_thieves(&mut self, queue: u8) {

@@ -225,17 +225,25 @@ impl Log {
     }
 
     fn rule_6(&self) -> Option<usize> {
-        self.entries.iter().position(|entry| {
-            let pushes = |full: &Entry| {
-                let counts = |push: &&Entry| {
-                    push.kind == PUSH
-                        && push.result == DONE
-                        && push.queue == full.queue
-                        && u32::from(push.moment) < first_moment(full)
-                };
-                self.entries.iter().filter(counts).count()
-            };
-            entry.result == FULL && pushes(entry) < usize::from(self.capacity)
+        (0..self.entries.len()).find(|&place| {
+            let full = self.entries[place].result == FULL;
+            full && self.pushes_less_pops(place) < i32::from(self.capacity)
         })
+    }
+
+    /// Done pushes less node-giving bottom pops on the queue of the call at `place`, before it and after the queue's latest NIL bottom pop.
+    fn pushes_less_pops(&self, place: usize) -> i32 {
+        let queue = self.entries[place].queue;
+        let earlier = self.entries[..place].iter().rev();
+        earlier
+            .filter(|entry| entry.queue == queue)
+            .map(|entry| (entry.kind, entry.result))
+            .take_while(|&call| call != (BOTTOM_POP, NIL))
+            .map(|call| match call {
+                (PUSH, DONE) => 1,
+                (BOTTOM_POP, DONE) => -1,
+                _ => 0,
+            })
+            .sum()
     }
 }

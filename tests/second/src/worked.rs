@@ -137,6 +137,10 @@ fn logs() -> Vec<(&'static str, String, String)> {
     let k14 = [
         2, 1, 2, 0, 2, 0, 0, 1, 1, 0, 7, 0, 0, 0, 2, 0, 4, 0, 0, 1, 2, 0, 8, 0, 3, 0, 3, 255, 255,
     ];
+    let emptied = [
+        2, 1, 1, 0, 4, 0, 0, 1, 1, 0, 7, 0, 0, 0, 2, 0, 4, 0, 0, 2, 1, 0, 7, 0, 3, 0, 8, 0, 8, 0,
+        0, 2, 0, 0, 0, 0, 9, 0, 9, 0, 18, 0, 0, 1, 2, 0, 8, 0, 10, 0, 10, 255, 255,
+    ];
     let mut k8_log = [0; 5];
     let k8_length = second::run(
         &file(&K8, &[]),
@@ -148,6 +152,7 @@ fn logs() -> Vec<(&'static str, String, String)> {
         ("K8, log bytes", "5\n".into(), format!("{k8_length}\n")),
         ("K4, entry", "17 at entry 5\n".into(), judged(&k4_log)),
         ("K14", "19 at entry 1\n".into(), judged(&k14)),
+        ("C-12", "19 at entry 3\n".into(), judged(&emptied)),
     ]
 }
 
