@@ -1,6 +1,6 @@
 -- Laws of the chains of tests, as a loop or a proof takes them.
-use mathlib.Core.Path.{_≡_, refl, sym, _∙_}
-use mathlib.Core.Bool.{Bool, true, false, _||_}
+use mathlib.Core.Path.{_≡_, refl, sym, ap, _∙_}
+use mathlib.Core.Bool.{Bool, true, false, _||_, or-false, or-assoc}
 use mathlib.Core.List.{List, [], _∷_}
 use Prim.Native.Nat.{ℕ, zero, suc, _+_, _<_, _≤_}
 use native.Mathlib.Numerals.{add-one}
@@ -8,6 +8,7 @@ use native.Mathlib.Omega.{arith}
 use native.Mathlib.Decide.{decLt}
 use lib.ListN.{length, getD, take, drop, drop-of-length-le}
 use lib.Seq.{drop-cons}
+use Rattle.base.specs.Lists.{listOf}
 use Rattle.runfile.specs.Check.{_when_, _then_, any, firstOf, sum}
 
 pub then-on : (a b : ℕ) → a ≡ 0 → (a then b) ≡ b
@@ -85,6 +86,14 @@ module _ {A : Type 0} (p : A → Bool) (d : A) where
   pub any-all : (l : List A) → ((k : ℕ) → k < length l → p (getD l k d) ≡ false) → any p l ≡ false
   any-all [] h = refl
   any-all (x ∷ l) h = rw (h 0 (omega arith), any-all l (λ k lt. h (suc k) (omega arith)))
+
+-- one value more
+pub any-more : {A : Type 0} (p : A → Bool) (f : ℕ → A) (n : ℕ) → any p (listOf (n + 1) f) ≡ (any p (listOf n f) || p (f n))
+any-more {A = A} p f n = rw add-one (go f n)
+  where
+    go : (f : ℕ → A) (n : ℕ) → any p (listOf (suc n) f) ≡ (any p (listOf n f) || p (f n))
+    go f zero = or-false (p (f 0))
+    go f (suc n) = ap (λ (t : Bool). p (f 0) || t) (go (λ i. f (suc i)) n) ∙ sym (or-assoc (p (f 0)) _ _)
 
 pub sum-next : (l : List ℕ) (i : ℕ) → sum (take (i + 1) l) ≡ sum (take i l) + getD l i 0
 sum-next l i = rw add-one (go l i)

@@ -2,6 +2,7 @@
 pub mod CheckLaws
 pub mod PartLaws
 pub mod CallLaws
+pub mod MarkLaws
 -- What number 0 says of a file, test by test, both ways; the reader's answer and the file.
 pub mod GoodLaws
 pub mod ReadingLaws

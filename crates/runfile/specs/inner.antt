@@ -1,2 +1,3 @@
 -- Terms of the code: a reader may skip them.
 pub mod Counts
+pub mod Marks

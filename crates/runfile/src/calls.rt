@@ -2,13 +2,15 @@
 ghost use mathlib.Core.Path.{_≡_};
 ghost use Prim.Native.Nat.{_+_, _≤_};
 ghost use lib.ListN.{length};
-ghost use Rattle.runfile.specs.Check.{any, firstOf};
-ghost use Rattle.runfile.specs.File.{callPlace, callOf, codedAt, callAt, firstCalls, pushes, repeats, wrongAt};
+ghost use Rattle.runfile.specs.Check.{firstOf};
+ghost use Rattle.runfile.specs.File.{callPlace, callOf, codedAt, callAt, firstCalls, wrongAt};
+ghost use Rattle.runfile.specs.inner.Marks.{Marks};
 use crate::Call;
 use crate::Coded;
+use crate::marks::MARK_BYTES;
+use crate::marks::mark;
 use crate::places::call_place;
 use base::byte_at;
-use base::joined;
 use base::number_at;
 use base::u8_to_u16;
 
@@ -66,57 +68,18 @@ pub fn call_at(file: &[u8], processes: u8, k: u16) -> Call
     }
 }
 
-// Whether call k pushes the node: only its code and its argument are read, for each push of a file asks this of every call before it.
-fn pushes_at(file: &[u8], processes: u8, k: u16, node: u16) -> bool
-    requires { ⌜ callPlace processes k + 3 ≤ length (now file) ⌝ }
-    ensures { λ r. ⌜ r ≡ pushes node (callAt (now (file .entry)) processes k) ⌝ }
-{
-    let at = call_place(processes, k);
-    if file[at] != PUSH {
-        return false;
-    }
-    let argument = joined(file[at + 1], file[at + 2]);
-    (argument != 0) & (argument == node)
-}
-
-// Whether one of the first k calls of the file pushes the node.
-fn pushed_earlier(file: &[u8], processes: u8, k: u16, node: u16) -> bool
-    requires { ⌜ callPlace processes k ≤ length (now file) ⌝ }
-    ensures { λ r. ⌜ r ≡ any (pushes node) (firstCalls (now (file .entry)) processes k) ⌝ }
-{
-    let mut j: u16 = 0;
-    while j < k {
-        if pushes_at(file, processes, j, node) {
-            return true;
-        }
-        j = j + 1;
-    }
-    false
-}
-
-// Whether a call pushes what one of the first k calls of the file pushes.
-fn repeats_earlier(file: &[u8], processes: u8, k: u16, call: Call) -> bool
-    requires { ⌜ callPlace processes k ≤ length (now file) ⌝ }
-    ensures { λ r. ⌜ r ≡ repeats (firstCalls (now (file .entry)) processes k) call ⌝ }
-{
-    match call {
-        Call::Push(node) => pushed_earlier(file, processes, k, node),
-        Call::Pop => false,
-        Call::Take(_) => false,
-    }
-}
-
-// The number that refuses call k, 0 for none.
-fn wrong_call(file: &[u8], processes: u8, k: u16) -> u8
-    requires { ⌜ callPlace processes k ≤ length (now file) ⌝ }
+// The number that refuses call k, 0 for none: then the table stands for one call more.
+fn wrong_call(file: &[u8], processes: u8, k: u16, marks: &mut [u8; MARK_BYTES]) -> u8
+    requires { ⌜ Marks (now marks) (firstCalls (now file) processes k) ⌝ }
     ensures { λ r. ⌜ r ≡ wrongAt (now (file .entry)) processes k ⌝ }
+    ensures { λ r. ⌜ (r ≡ 0 → Marks (now (marks .exit)) (firstCalls (now (file .entry)) processes (k + 1))) ⌝ }
 {
     let coded = coded_at(file, processes, k);
     match coded {
-        Coded::Right(call) => if repeats_earlier(file, processes, k, call) {
-            5
-        } else {
-            0
+        Coded::Right(call) => match call {
+            Call::Push(node) => if mark(marks, node) { 5 } else { 0 },
+            Call::Pop => 0,
+            Call::Take(_) => 0,
         },
         Coded::Wrong(number) => number,
     }
@@ -127,9 +90,10 @@ pub(crate) fn first_wrong(file: &[u8], processes: u8, calls: u16) -> u8
     requires { ⌜ callPlace processes calls ≤ length (now file) ⌝ }
     ensures { λ r. ⌜ r ≡ firstOf (wrongAt (now (file .entry)) processes) calls ⌝ }
 {
+    let mut marks = [0u8; MARK_BYTES];
     let mut k: u16 = 0;
     while k < calls {
-        let number = wrong_call(file, processes, k);
+        let number = wrong_call(file, processes, k, &mut marks);
         if number != 0 {
             return number;
         }
