@@ -2,8 +2,9 @@
 -- files with two faults.
 use mathlib.Core.Path.{_≡_, refl}
 use mathlib.Core.List.{List, [], _∷_, _++_, map}
-use Prim.Native.Nat.{ℕ}
+use Prim.Native.Nat.{ℕ, suc}
 use lib.ListN.{replicate, drop}
+use Rattle.base.specs.Lists.{listOf}
 use Rattle.runfile.specs.declared.Call.the-variants.{Push, Pop, Take}
 use Rattle.runfile.specs.File.{good, fileOf, readingOf, numberIn, laterSections, lengthAt, callsBefore, callAt, stepPlace}
 use Rattle.runfile.specs.Encode.{callsBytes}
@@ -23,17 +24,26 @@ boxed width size = 2 ∷ width ∷ size ∷ 1 ∷ 0 ∷ 0 ∷ 0 ∷ 0 ∷ 0 ∷ 
 abbrev scheduled : ℕ → ℕ → List ℕ → List ℕ
 scheduled high low steps = 2 ∷ 8 ∷ 4 ∷ 1 ∷ 0 ∷ 0 ∷ 0 ∷ high ∷ low ∷ steps
 
--- one process, one call, no schedule
+-- one process, n calls in bytes, no schedule
+abbrev scripted : ℕ → List ℕ → List ℕ
+scripted n calls = 2 ∷ 8 ∷ 4 ∷ 1 ∷ n ∷ 0 ∷ n ∷ (calls ++ (0 ∷ 0 ∷ []))
+
 abbrev calling : ℕ → ℕ → ℕ → List ℕ
-calling code high low = 2 ∷ 8 ∷ 4 ∷ 1 ∷ 1 ∷ 0 ∷ 1 ∷ code ∷ high ∷ low ∷ 0 ∷ 0 ∷ []
+calling code high low = scripted 1 (code ∷ high ∷ low ∷ [])
 
 -- two processes, a call of each with a code and an argument, no schedule
 abbrev twice : ℕ → ℕ → ℕ → ℕ → List ℕ
 twice code x code′ y = 2 ∷ 8 ∷ 4 ∷ 2 ∷ 1 ∷ 1 ∷ 0 ∷ 2 ∷ code ∷ 0 ∷ x ∷ code′ ∷ 0 ∷ y ∷ 0 ∷ 0 ∷ []
 
--- one process, n bottom pops, no schedule
 abbrev popping : ℕ → List ℕ
-popping n = 2 ∷ 8 ∷ 4 ∷ 1 ∷ n ∷ 0 ∷ n ∷ (callsBytes (replicate n Pop) ++ (0 ∷ 0 ∷ []))
+popping n = scripted n (callsBytes (replicate n Pop))
+
+abbrev pushBytes : List ℕ → List ℕ
+pushBytes nodes = callsBytes (map Push nodes)
+
+-- eight processes with all the calls that there can be, pushes of 256 nodes; no schedule
+abbrev pushing : List ℕ → List ℕ
+pushing nodes = 2 ∷ 8 ∷ 4 ∷ 8 ∷ (replicate 8 32 ++ (1 ∷ 0 ∷ (pushBytes nodes ++ (0 ∷ 0 ∷ []))))
 
 abbrev pub cases : List Case
 cases =
@@ -88,6 +98,18 @@ cases =
     gives 0 (twice 1 7 3 1) ∷
     gives 5 (twice 1 0 9 0) ∷
     gives 4 (twice 9 0 1 0) ∷
+    -- 5: nodes whose marks share a byte, or a bit in two bytes; and the last node twice
+    gives 0 (scripted 2 (pushBytes (8 ∷ 9 ∷ []))) ∷
+    gives 0 (scripted 2 (pushBytes (7 ∷ 15 ∷ []))) ∷
+    gives 0 (scripted 2 (pushBytes (255 ∷ 511 ∷ []))) ∷
+    gives 0 (scripted 2 (pushBytes (32767 ∷ 65535 ∷ []))) ∷
+    gives 5 (scripted 2 (pushBytes (65535 ∷ 65535 ∷ []))) ∷
+    -- 5: a wrong code before the repeat, and after it
+    gives 4 (scripted 3 (pushBytes (7 ∷ []) ++ (4 ∷ 0 ∷ 0 ∷ pushBytes (7 ∷ [])))) ∷
+    gives 5 (scripted 3 (pushBytes (7 ∷ 7 ∷ []) ++ (4 ∷ 0 ∷ 0 ∷ []))) ∷
+    -- 5: the last of 256 pushes repeats the first; and 256 nodes
+    gives 5 (pushing (listOf 255 suc ++ (1 ∷ []))) ∷
+    gives 0 (pushing (listOf 256 suc)) ∷
     -- 6: a process not below P; a length that is wrong, and steps that are missing
     gives 6 (scheduled 0 1 (1 ∷ [])) ∷
     gives 0 (scheduled 0 1 (0 ∷ [])) ∷
