@@ -170,7 +170,15 @@ static size_t longest(void)
     return at;
 }
 
-/* Its log: push k of process p has the steps 8 * 3k + p, 8 * (3k + 1) + p and 8 * (3k + 2) + p. */
+/* The longest file, but its last call pushes the node of its first. */
+static size_t longest_repeating(void)
+{
+    size_t n = longest();
+    put_two(n - STEPS - 4, 1);
+    return n;
+}
+
+/* The longest file's log: push k of process p has the steps 8 * 3k + p, 8 * (3k + 1) + p and 8 * (3k + 2) + p. */
 static size_t longest_log(void)
 {
     size_t at = put_two(put(0, (const uint8_t[]){2, PROCESSES, 64}, 3), MOST);
@@ -204,6 +212,7 @@ static void long_files(void)
     run_and_show("longest-a-byte-short-of-room", longest(), SCARPGOBLET_LOG_MOST - 1);
     run_and_show("longest-a-byte-short", longest() - 1, SCARPGOBLET_LOG_MOST);
     run_and_show("longest-a-byte-more", longest() + 1, SCARPGOBLET_LOG_MOST);
+    run_and_show("longest-with-its-first-node-last", longest_repeating(), SCARPGOBLET_LOG_MOST);
     size_t wrote = run("longest", longest(), SCARPGOBLET_LOG_MOST);
     show_verdict(wrote);
     printf(", log %s", wrote == longest_log() && memcmp(buffer, lent.log, wrote) == 0 ? "right" : "wrong");

@@ -1,4 +1,4 @@
-//! The worked runs K1 to K14 and the worked racks, typed from the pages, against this side alone.
+//! The worked runs K1 to K14, files that push a node twice, and the worked racks, typed from the pages, against this side alone.
 
 use second::log::{length, Entry, HEAD, MOST, WIDTH};
 use std::fmt::Write;
@@ -60,7 +60,8 @@ pub fn differences() -> Vec<String> {
         let found = output(&file, length(MOST));
         (name, wanted.to_string(), found)
     });
-    let all = outputs.chain(refusals()).chain(logs()).chain(racks());
+    let refused = refusals().into_iter().chain(repeats());
+    let all = outputs.chain(refused).chain(logs()).chain(racks());
     all.filter(|(_, wanted, found)| wanted != found)
         .map(|(name, wanted, found)| format!("{name}: wanted\n{wanted}found\n{found}"))
         .collect()
@@ -120,6 +121,48 @@ fn refusals() -> Vec<(&'static str, String, String)> {
         (name, format!("refused {number}\n"), output(&file, room))
     };
     refused.into_iter().map(compare).collect()
+}
+
+/// Calls in bytes, 32 to a process, and no schedule.
+fn scripts(calls: &[u8]) -> Vec<u8> {
+    let lengths = calls.chunks(96).map(|script| (script.len() / 3) as u8);
+    let lengths: Vec<u8> = lengths.collect();
+    let sizes = [2, 8, 4, lengths.len() as u8];
+    let count = ((calls.len() / 3) as u16).to_be_bytes();
+    file(&[&sizes[..], &lengths, &count, calls].concat(), &[])
+}
+
+fn pushes(nodes: &[u16]) -> Vec<u8> {
+    let call = |node: &u16| [[1].as_slice(), &node.to_be_bytes()].concat();
+    nodes.iter().flat_map(call).collect()
+}
+
+/// Nodes that are near each other; a node twice; a wrong code before that and after it.
+fn repeats() -> Vec<(&'static str, String, String)> {
+    let nodes: Vec<u16> = (1..=256).collect();
+    let first_again = [&nodes[..255], &[1]].concat();
+    let (seven, code_4) = (pushes(&[7]), [4, 0, 0]);
+    let wrong_before = [&seven[..], &code_4, &seven].concat();
+    let wrong_after = [&seven[..], &seven, &code_4].concat();
+    let cases = [
+        ("pushes 8, 9", pushes(&[8, 9]), 0),
+        ("pushes 7, 15", pushes(&[7, 15]), 0),
+        ("pushes 255, 511", pushes(&[255, 511]), 0),
+        ("pushes 32767, 65535", pushes(&[32767, 65535]), 0),
+        ("pushes 65535 twice", pushes(&[65535, 65535]), 5),
+        ("code 4 before the repeat", wrong_before, 4),
+        ("code 4 after the repeat", wrong_after, 5),
+        ("256 pushes", pushes(&nodes), 0),
+        ("256 pushes, the first again", pushes(&first_again), 5),
+    ];
+    let compare = |(name, calls, number): (_, Vec<u8>, u16)| {
+        let wanted = match number {
+            0 => K8_OUTPUT.to_string(),
+            _ => format!("refused {number}\n"),
+        };
+        (name, wanted, output(&scripts(&calls), length(MOST)))
+    };
+    cases.into_iter().map(compare).collect()
 }
 
 fn logs() -> Vec<(&'static str, String, String)> {
