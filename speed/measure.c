@@ -34,15 +34,15 @@ static unsigned random_below(unsigned n) {
     return (seed >> 8) % n;
 }
 
-/* A file of p processes with so many calls each, by chance pushes, bottom pops and top pops, and a random schedule. */
-static size_t make(uint8_t *f, unsigned p, unsigned calls, unsigned steps) {
+/* A file of p processes with so many calls each, by chance of codes 1, a push, to the last, and a random schedule. */
+static size_t make(uint8_t *f, unsigned p, unsigned calls, unsigned last_code, unsigned steps) {
     size_t at = 0;
     unsigned node = 1;
     f[at++] = 2, f[at++] = 8, f[at++] = 64, f[at++] = (uint8_t)p;
     for (unsigned i = 0; i < p; i++) f[at++] = (uint8_t)calls;
     f[at++] = (uint8_t)(p * calls / 256), f[at++] = (uint8_t)(p * calls);
     for (unsigned k = 0; k < p * calls; k++) {
-        unsigned code = 1 + random_below(3);
+        unsigned code = 1 + random_below(last_code);
         f[at++] = (uint8_t)code;
         f[at++] = code == 1 ? (uint8_t)(node / 256) : 0;
         f[at++] = code == 1 ? (uint8_t)node++ : code == 3 ? (uint8_t)random_below(p) : 0;
@@ -80,10 +80,10 @@ static void least(double *x, double y) {
     if (y < *x) *x = y;
 }
 
-static int compare_runs(const char *name, unsigned p, unsigned calls, unsigned steps) {
+static int compare_runs(const char *name, unsigned p, unsigned calls, unsigned last_code, unsigned steps) {
     static uint8_t f[FILE_MOST];
     static struct reply proved, c, rust;
-    size_t len = make(f, p, calls, steps);
+    size_t len = make(f, p, calls, last_code, steps);
     ran(scarpgoblet_run, f, len, &proved), ran(plain_run, f, len, &c), ran(second_run, f, len, &rust);
     if (memcmp(&proved, &c, sizeof c) || memcmp(&proved, &rust, sizeof rust)) {
         printf("%s: the replies differ\n", name);
@@ -99,7 +99,7 @@ static int compare_runs(const char *name, unsigned p, unsigned calls, unsigned s
 static int compare_judges(const char *name, unsigned p, unsigned calls, unsigned steps) {
     static uint8_t f[FILE_MOST];
     static struct reply r;
-    ran(scarpgoblet_run, f, make(f, p, calls, steps), &r);
+    ran(scarpgoblet_run, f, make(f, p, calls, 3, steps), &r);
     if (r.report[1] != p * calls || scarpgoblet_judge(r.log, r.length) != 0 || second_judge(r.log, r.length) != 0) {
         printf("%s: not a log of that many entries, or not accepted\n", name);
         return 1;
@@ -115,7 +115,7 @@ static size_t make_rack(uint8_t *rack) {
     size_t at = 2;
     rack[0] = FILES / 256, rack[1] = FILES % 256;
     for (unsigned i = 0; i < FILES; i++) {
-        size_t len = make(rack + at + 2, 3, 10, 150);
+        size_t len = make(rack + at + 2, 3, 10, 3, 150);
         rack[at] = (uint8_t)(len / 256), rack[at + 1] = (uint8_t)len;
         at += 2 + len;
     }
@@ -166,8 +166,9 @@ static int compare_racks(void) {
 }
 
 int main(void) {
-    return compare_runs("a full file (8 processes, 32 calls each, 4,096 steps)", 8, 32, 4096)
-        | compare_runs("a morning's file (3 processes, 10 calls each, 150 steps)", 3, 10, 150)
+    return compare_runs("a full file (8 processes, 32 calls each, 4,096 steps)", 8, 32, 3, 4096)
+        | compare_runs("a morning's file (3 processes, 10 calls each, 150 steps)", 3, 10, 3, 150)
+        | compare_runs("256 pushes (8 processes, 32 pushes each, no step)", 8, 32, 1, 0)
         | compare_judges("a full log (256 entries)", 8, 32, 4096)
         | compare_judges("a morning's log (30 entries)", 3, 10, 150)
         | compare_racks();

@@ -43,12 +43,13 @@ static unsigned check(const uint8_t *f, size_t len) {
     if (n != sum) return 4;
     if (len < 6 + p + 3 * n) return 1;
     const uint8_t *calls = f + 6 + p;
+    uint8_t marks[8192] = {0};
     for (unsigned k = 0; k < n; k++) {
         unsigned code = calls[3 * k], argument = two(calls + 3 * k + 1);
         if (code == 1) {
-            if (argument == 0) return 5;
-            for (unsigned j = 0; j < k; j++)
-                if (calls[3 * j] == 1 && two(calls + 3 * j + 1) == argument) return 5;
+            unsigned bit = 1u << argument % 8;
+            if (argument == 0 || marks[argument / 8] & bit) return 5;
+            marks[argument / 8] |= (uint8_t)bit;
         } else if (code == 2) {
             if (argument != 0) return 4;
         } else if (code == 3) {
