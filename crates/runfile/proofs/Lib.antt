@@ -1,4 +1,4 @@
--- Chains of tests, parts of some bytes, and the calls of a file, as loops take them.
+-- Chains of tests, parts of some bytes, the calls of a file, and the table of marks, as loops take them.
 pub mod CheckLaws
 pub mod PartLaws
 pub mod CallLaws

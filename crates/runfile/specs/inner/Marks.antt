@@ -18,7 +18,7 @@ markBytes = 8192
 abbrev pub bit : ℕ → ℕ → ℕ
 bit i byte = byte / 2 ^ i % 2
 
--- the mark of a node
+-- whether a node is marked, and the table with its mark
 abbrev pub marked : List ℕ → ℕ → Bool
 marked marks node = eqb (bit (node % 8) (byteAt marks (node / 8))) 1
 
