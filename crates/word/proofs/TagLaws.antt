@@ -38,7 +38,7 @@ tag-wide W g h k = elim (decLt 16 W) [
 pub next-below : (W g : ℕ) → nextTag W g < 2 ^ W
 next-below W g = mod-lt (g + 1) (pow-pos W)
 
--- and differs from the present one
+-- and differs from the present one, where there is a tag: W is 1 or more
 differs : (m g : ℕ) → 1 < m → (g + 1) % m ≡ g → ⊥
 differs m g h e = elim (decLt (g + 1) m) [
   | yes p ↦ omega (arith, mod-eq-of-lt p)

@@ -5,9 +5,10 @@ use Rattle.word.specs.Tag.{nextTag, isTag}
 use Rattle.word.specs.Stages.{rowNumber, firstLoaded, isIdle, atT1, atB2, pastB2, popsSlot, stepsLeft}
 use Rattle.word.specs.declared.Stage.the-variants.{Idle, P1, P3, T1, T2, T3, T4, B1, B2, B3, B7}
 
--- the tag goes round
+-- the tag goes round; with no bits it is 0, and so is its next value
 round : (nextTag 2 3 ≡ 0) × (nextTag 16 65535 ≡ 0) × (nextTag 16 65534 ≡ 65535) × (isTag 1 1 ≡ true) × (isTag 1 2 ≡ false)
-round = (refl, refl, refl, refl, refl)
+    × (nextTag 0 0 ≡ 0) × (isTag 0 0 ≡ true) × (isTag 0 1 ≡ false)
+round = (refl, refl, refl, refl, refl, refl, refl, refl)
 
 -- where stages stand, with a stage beside each that stands elsewhere
 stands : (rowNumber Idle ≡ 0) × (rowNumber (B7 1 7 0 0) ≡ 14) × (firstLoaded (T3 2 0 3) ≡ 2) × (firstLoaded T1 ≡ 0)
