@@ -11,7 +11,7 @@ use Rattle.range.specs.inner.Facts.{SizesIn, WordIn, StageIn, InRange}
 use Rattle.range.proofs.RangeLaws.{in-range, range-in}
 use Rattle.queue.specs.Step.{leaves, rowOf, loadedSlot, loaded, stored, steppedOn, stageAfter, resultOf as nextResult, StepOn}
 use Rattle.queue.proofs.StepLaws.{Answered, answered}
-use Rattle.desk.specs.Refusals.{OfB, OfAge, From, Refuses, width-low, width-high, size-low, size-high, slots-not-C, bottom-above, top-above, b-above, t-above, word-tag, stage-tag, push-b, take-t, pop-b}
+use Rattle.desk.specs.Refusals.{OfB, OfAge, From, Refuses, width-high, size-low, size-high, slots-not-C, bottom-above, top-above, b-above, t-above, word-tag, stage-tag, push-b, take-t, pop-b}
 use Rattle.desk.specs.Desk.{answerOf, numberOf, stageOf, resultOf, deskAnswer, deskWord, deskSlots, AtDesk}
 use Rattle.word.specs.declared.Word.{Word}
 use Rattle.word.specs.declared.Stage.{Stage}
@@ -127,7 +127,6 @@ by-absurdity false h = refl
 
 module _ (W C n : ℕ) (w : Word) (s : Stage) where
   out : Refuses W C n w s → InRange W C n w s → ⊥
-  out (width-low h) k = omega (arith, k .sizes .width-low)
   out (width-high h) k = omega (arith, k .sizes .width-high)
   out (size-low h) k = omega (arith, k .sizes .size-low)
   out (size-high h) k = omega (arith, k .sizes .size-high)
@@ -196,10 +195,10 @@ module _ (W C n : ℕ) (w : Word) where
 
   sizes-listed : {s : Stage} → (SizesIn W C n → Refuses W C n w s) → Refuses W C n w s
   sizes-listed k =
-      at-most 1 W width-low (λ a. at-most W 16 width-high (λ b. at-most 1 C size-low (λ c. at-most C 64 size-high (λ d.
+      at-most W 16 width-high (λ a. at-most 1 C size-low (λ b. at-most C 64 size-high (λ c.
       three-ways n C (λ p. slots-not-C (λ e. omega arith))
-      (λ e. k (record { width-low = a; width-high = b; size-low = c; size-high = d; all = e }))
-      (λ p. slots-not-C (λ e. omega arith))))))
+      (λ e. k (record { width-high = a; size-low = b; size-high = c; all = e }))
+      (λ p. slots-not-C (λ e. omega arith)))))
 
   word-listed : {s : Stage} → (WordIn W C w → Refuses W C n w s) → Refuses W C n w s
   word-listed k =

@@ -42,7 +42,6 @@ From i j s = (rowNumber i ≤ rowNumber s) × (rowNumber s ≤ rowNumber j)
 
 -- document 01's list of what the desk refuses
 pub data Refuses (W C n : ℕ) (w : Word) (s : Stage) : Type 0 where
-  width-low : W < 1 → Refuses W C n w s
   width-high : 16 < W → Refuses W C n w s
   size-low : C < 1 → Refuses W C n w s
   size-high : 64 < C → Refuses W C n w s

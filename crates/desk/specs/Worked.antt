@@ -57,6 +57,12 @@ K5-not-round : Gives 2 4 (word 0 0 1) (slots 2) (B6 1 2 0 1) (Node 2) (word 0 0 
     × Gives 2 4 (word 1 0 2) (slots 3) (T4 0 0 1 1) Nil (word 1 0 2) (slots 3)
 K5-not-round = ((refl, refl, refl), (refl, refl, refl))
 
+-- K4 with no tag: each B6 finds (0, 0) and leaves (0, 0), and the T4 gets its node as at W = 1
+K4-no-tag : Gives 0 4 (word 0 0 0) (slots 1) (B6 1 1 0 0) (Node 1) (word 0 0 0) (slots 1)
+    × Gives 0 4 (word 0 0 0) (slots 2) (B6 1 2 0 0) (Node 2) (word 0 0 0) (slots 2)
+    × Gives 0 4 (word 1 0 0) (slots 3) (T4 0 0 1 1) (Node 1) (word 1 1 0) (slots 3)
+K4-no-tag = ((refl, refl, refl), (refl, refl, refl), (refl, refl, refl))
+
 -- K6: FULL at C = 1; a node of any 16-bit value; an idle stage
 edges : Gives 8 1 (word 1 0 0) (5 ∷ []) (P1 6) Full (word 1 0 0) (5 ∷ [])
     × Gives 16 1 (word 0 0 65535) (5 ∷ []) (P2 0 0) (Going (P3 0)) (word 0 0 65535) (0 ∷ [])
@@ -78,15 +84,15 @@ Refusal W C w slots s = Gives W C w slots s (Refused s) w slots
 abbrev StageRefusal : Stage → Type 0
 StageRefusal s = Refusal 8 4 (word 0 0 0) (slots 0) s
 
--- W not 1 to 16, C not 1 to 64, the slots not C in number
-sizes-refused : Refusal 0 4 (word 0 0 0) (slots 0) B1 × Refusal 17 4 (word 0 0 0) (slots 0) B1 × Refusal 8 0 (word 0 0 0) [] B1
+-- W not 0 to 16, C not 1 to 64, the slots not C in number
+sizes-refused : Refusal 17 4 (word 0 0 0) (slots 0) B1 × Refusal 8 0 (word 0 0 0) [] B1
     × Refusal 8 65 (word 0 0 0) (replicate 65 0) B1 × Refusal 8 3 (word 0 0 0) (slots 0) B1 × Refusal 8 5 (word 0 0 0) (slots 0) B1
-sizes-refused = ((refl, refl, refl), (refl, refl, refl), (refl, refl, refl), (refl, refl, refl), (refl, refl, refl), (refl, refl, refl))
+sizes-refused = ((refl, refl, refl), (refl, refl, refl), (refl, refl, refl), (refl, refl, refl), (refl, refl, refl))
 
 -- a bottom or top of the word above C, its tag not below 2^W; so also where the stage is idle
 word-refused : Refusal 8 4 (word 5 0 0) (slots 0) B1 × Refusal 8 4 (word 0 5 0) (slots 0) B1 × Refusal 8 4 (word 0 0 256) (slots 0) B1
-    × Refusal 8 4 (word 5 0 0) (slots 0) Idle
-word-refused = ((refl, refl, refl), (refl, refl, refl), (refl, refl, refl), (refl, refl, refl))
+    × Refusal 0 4 (word 0 0 1) (slots 0) B1 × Refusal 8 4 (word 5 0 0) (slots 0) Idle
+word-refused = ((refl, refl, refl), (refl, refl, refl), (refl, refl, refl), (refl, refl, refl), (refl, refl, refl))
 
 -- a loaded b or t above C, a loaded tag not below 2^W
 loads-refused : StageRefusal (P2 7 5) × StageRefusal (T3 0 0 5) × StageRefusal (B2 5) × StageRefusal (T2 5 0) × StageRefusal (B5 1 7 5 0)

@@ -34,9 +34,8 @@ size-most s W C = go (wordsOf (start 1) s)
     go w =
         if-eq Q (w .count) 1 (λ _ e. absurd (let z : _≡_ {A = ℕ} 0 1 = cc in omega arith))
         (λ _. if-eq Q (w .count) 3
-        (λ _. if-lt Q (w .a) 1 (λ _ e. absurd (let z : _≡_ {A = ℕ} 0 1 = cc in omega arith))
         (λ _. if-lt Q 16 (w .a) (λ _ e. absurd (let z : _≡_ {A = ℕ} 0 1 = cc in omega arith))
         (λ _. if-lt Q (w .b) 1 (λ _ e. absurd (let z : _≡_ {A = ℕ} 0 1 = cc in omega arith))
         (λ _. if-lt Q 64 (w .b) (λ _ e. absurd (let z : _≡_ {A = ℕ} 0 1 = cc in omega arith))
-        (λ l e. let d : w .b ≡ C = cc in omega arith)))))
+        (λ l e. let d : w .b ≡ C = cc in omega arith))))
         (λ _ e. absurd (let z : _≡_ {A = ℕ} 0 1 = cc in omega arith)))

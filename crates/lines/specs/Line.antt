@@ -128,11 +128,10 @@ abbrev pub sizesIn : Words → Sizes
 sizesIn w =
     cond (eqb (w .count) 1) (sizes.Wrong sizes-why.Nothing)
     (cond (eqb (w .count) 3)
-    (cond (ltb (w .a) 1) (sizes.Wrong sizes-why.Width)
     (cond (ltb 16 (w .a)) (sizes.Wrong sizes-why.Width)
     (cond (ltb (w .b) 1) (sizes.Wrong sizes-why.Size)
     (cond (ltb 64 (w .b)) (sizes.Wrong sizes-why.Size)
-    (sizes.Good (w .a) (w .b))))))
+    (sizes.Good (w .a) (w .b)))))
     (sizes.Wrong sizes-why.NotTwo))
 
 abbrev pub sizesOf : List ℕ → Sizes

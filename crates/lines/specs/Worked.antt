@@ -87,10 +87,10 @@ read = map (λ (s : String). sizesOf (typed s))
 abbrev wrong : List SizesWhy → List Sizes
 wrong = map (λ (w : SizesWhy). sizes.Wrong w)
 
--- W is 1 to 16, C 1 to 64
+-- W is 0 to 16, C 1 to 64
 pub sizes-worked :
-    (read ("8 4" ∷ " 1\t1 \r" ∷ "16 64" ∷ []) ≡ sizes.Good 8 4 ∷ sizes.Good 1 1 ∷ sizes.Good 16 64 ∷ [])
-    × (read ("0 4" ∷ "17 4" ∷ "x 4" ∷ "65552 4" ∷ []) ≡ wrong (sizes-why.Width ∷ sizes-why.Width ∷ sizes-why.Width ∷ sizes-why.Width ∷ []))
+    (read ("8 4" ∷ " 0\t1 \r" ∷ "16 64" ∷ []) ≡ sizes.Good 8 4 ∷ sizes.Good 0 1 ∷ sizes.Good 16 64 ∷ [])
+    × (read ("-1 4" ∷ "17 4" ∷ "x 4" ∷ "65552 4" ∷ []) ≡ wrong (sizes-why.Width ∷ sizes-why.Width ∷ sizes-why.Width ∷ sizes-why.Width ∷ []))
     × (read ("8 0" ∷ "8 65" ∷ "8 4x" ∷ "8 65600" ∷ []) ≡ wrong (sizes-why.Size ∷ sizes-why.Size ∷ sizes-why.Size ∷ sizes-why.Size ∷ []))
     × (read ("8" ∷ "8 4 2" ∷ "1 2 3 4 5 6 7 8 9" ∷ []) ≡ wrong (sizes-why.NotTwo ∷ sizes-why.NotTwo ∷ sizes-why.NotTwo ∷ []))
     × (read ("" ∷ " \t" ∷ []) ≡ wrong (sizes-why.Nothing ∷ sizes-why.Nothing ∷ []))

@@ -61,7 +61,7 @@ pub enum Sizes {
     Wrong(SizesWhy),
 }
 
-// Nothing on the line; not two words; W is no number from 1 to 16; C is no number from 1 to 64.
+// Nothing on the line; not two words; W is no number from 0 to 16; C is no number from 1 to 64.
 pub enum SizesWhy {
     Nothing,
     NotTwo,
@@ -170,9 +170,6 @@ pub fn read_sizes(line: &[u8]) -> Sizes
         return Sizes::Wrong(SizesWhy::NotTwo);
     }
     let width = words.a;
-    if width < 1 {
-        return Sizes::Wrong(SizesWhy::Width);
-    }
     if 16 < width {
         return Sizes::Wrong(SizesWhy::Width);
     }

@@ -21,10 +21,8 @@ module _ (W C : ℕ) where
       let d = parts e in
       let c = parts (d .0) in
       let b = parts (c .0) in
-      let a = parts (b .0) in
       record {
-        width-low = leb-true 1 W (a .0);
-        width-high = leb-true W 16 (a .1);
+        width-high = leb-true W 16 (b .0);
         size-low = leb-true 1 C (b .1);
         size-high = leb-true C 64 (c .1);
         all = eqb-true slots C (d .1);
@@ -32,7 +30,7 @@ module _ (W C : ℕ) where
 
   in-sizes : (slots : ℕ) → SizesIn W C slots → sizesIn W C slots ≡ true
   in-sizes slots h =
-      joined (joined (joined (joined (le-leb 1 W (h .width-low)) (le-leb W 16 (h .width-high))) (le-leb 1 C (h .size-low))) (le-leb C 64 (h .size-high))) (eq-eqb slots C (h .all))
+      joined (joined (joined (le-leb W 16 (h .width-high)) (le-leb 1 C (h .size-low))) (le-leb C 64 (h .size-high))) (eq-eqb slots C (h .all))
 
   age-in : (t g : ℕ) → ageIn W C t g ≡ true → (t ≤ C) × (g < 2 ^ W)
   age-in t g e = let p = parts e in (leb-true t C (p .0), ltb-true g (2 ^ W) (p .1))

@@ -7,9 +7,9 @@ use Rattle.word.specs.declared.Word.{Word}
 use Rattle.word.specs.declared.Stage.{Stage}
 use Rattle.word.specs.declared.Stage.the-variants.{Idle, P1, P2, P3, T1, T2, T3, T4, B1, B2, B3, B4, B5, B6, B7}
 
--- W is 1 to 16, C is 1 to 64, and the slots are C in number
+-- W is 0 to 16, C is 1 to 64, and the slots are C in number
 abbrev pub sizesIn : ℕ → ℕ → ℕ → Bool
-sizesIn W C slots = leb 1 W && leb W 16 && leb 1 C && leb C 64 && eqb slots C
+sizesIn W C slots = leb W 16 && leb 1 C && leb C 64 && eqb slots C
 
 -- a top is at most C, and the tag beside it below 2^W
 abbrev pub ageIn : ℕ → ℕ → ℕ → ℕ → Bool

@@ -20,7 +20,7 @@ fn is_tag(width: u8, g: u16) -> bool
 fn sizes_in(width: u8, size: u8, slots: usize) -> bool
     ensures { λ r. ⌜ r ≡ sizesIn width size slots ⌝ }
 {
-    (1 <= width) & (width <= 16) & (1 <= size) & (size <= 64) & (slots == size as usize)
+    (width <= 16) & (1 <= size) & (size <= 64) & (slots == size as usize)
 }
 
 fn age_in(width: u8, size: u8, t: u16, g: u16) -> bool

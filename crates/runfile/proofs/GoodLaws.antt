@@ -18,7 +18,7 @@ use Rattle.runfile.proofs.CallLaws.{calls-length}
 
 pub record Passes (s : List ℕ) : Type 0 where
   pub mark : getD s 0 0 ≡ sectionCount
-  pub width : (1 ≤ widthIn s) × (widthIn s ≤ mostWidth)
+  pub width : widthIn s ≤ mostWidth
   pub size : (1 ≤ sizeIn s) × (sizeIn s ≤ mostSize)
   pub processes : (1 ≤ processesIn s) × (processesIn s ≤ mostProcesses)
   pub shares : any (ltb longestScript) (recordIn s .shares) ≡ false
@@ -75,10 +75,10 @@ module _ (s : List ℕ) where
       let s2 = section-none (length s) 2 4 (outside 1 mostProcesses P) (4 + P) _ (b .0) in
       let s3 = section-none (length s) 3 (callPlace P 0) (not (eqb n (callsBefore s P))) (callPlace P n) _ (d .0) in
       let s4 = section-none (length s) 5 (stepPlace P n 0) (ltb longestSchedule m) (stepPlace P n m) _ (f .0) in
-      let wc = then-none (2 when outside 1 mostWidth (widthIn s)) _ (s1 .3) in
+      let wc = then-none (2 when ltb mostWidth (widthIn s)) _ (s1 .3) in
       record {
         mark = eqb-true (getD s 0 0) sectionCount (not-false _ (s1 .1));
-        width = within 1 mostWidth (widthIn s) (when-none 1 _ (wc .0));
+        width = ltb-false mostWidth (widthIn s) (when-none 1 _ (wc .0));
         size = within 1 mostSize (sizeIn s) (when-none 1 _ (wc .1));
         processes = within 1 mostProcesses P (s2 .1);
         shares = when-none 2 _ (s2 .3);
@@ -90,11 +90,11 @@ module _ (s : List ℕ) where
       }
 
   -- each section passes when it is there and its tests hold
-  pub pass1 : 3 ≤ length s → getD s 0 0 ≡ sectionCount → (1 ≤ widthIn s) × (widthIn s ≤ mostWidth) → (1 ≤ sizeIn s) × (sizeIn s ≤ mostSize)
+  pub pass1 : 3 ≤ length s → getD s 0 0 ≡ sectionCount → widthIn s ≤ mostWidth → (1 ≤ sizeIn s) × (sizeIn s ≤ mostSize)
       → section1 s ≡ 0
   pass1 there mark width size =
       section-pass (length s) 2 1 (not (eqb (getD s 0 0) sectionCount)) 3 _ (omega arith) (rw mark) there
-      ∙ rw (inside-range 1 mostWidth (widthIn s) width, inside-range 1 mostSize (sizeIn s) size)
+      ∙ rw (le-ltb mostWidth (widthIn s) width, inside-range 1 mostSize (sizeIn s) size)
 
   pub pass2 : 4 + P ≤ length s → (1 ≤ P) × (P ≤ mostProcesses) → any (ltb longestScript) (recordIn s .shares) ≡ false → section2 s ≡ 0
   pass2 there range shares =

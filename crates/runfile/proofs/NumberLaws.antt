@@ -50,7 +50,7 @@ number-few : (s : List ℕ) → Few (numberOf s)
 number-few s =
     then-few (section1 s) _
     (section-few 2 (s endsBefore 1) (not (eqb (byteAt s 0) sectionCount)) (s endsBefore 3) _ (omega arith)
-    (then-few (2 when outside 1 mostWidth (widthIn s)) _ (when-few 2 (outside 1 mostWidth (widthIn s)) (omega arith))
+    (then-few (2 when ltb mostWidth (widthIn s)) _ (when-few 2 (ltb mostWidth (widthIn s)) (omega arith))
     (when-few 2 (outside 1 mostSize (sizeIn s)) (omega arith))))
     (then-few (section2 s) _
     (section-few 3 (s endsBefore (sharePlace 0)) (outside 1 mostProcesses P) (s endsBefore (sharePlace P)) _ (omega arith)

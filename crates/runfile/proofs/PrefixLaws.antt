@@ -88,7 +88,7 @@ module _ (s t : List ℕ) (h : Passes s) where
   carry1 : 3 ≤ length t → ((i : ℕ) → i < 3 → getD s i 0 ≡ getD t i 0) → section1 t ≡ 0
   carry1 there e =
       pass1 t there (sym (e 0 (omega arith)) ∙ h .mark)
-      (subst (λ (w : ℕ). (1 ≤ w) × (w ≤ mostWidth)) (e 1 (omega arith)) (h .width))
+      (subst (λ (w : ℕ). w ≤ mostWidth) (e 1 (omega arith)) (h .width))
       (subst (λ (w : ℕ). (1 ≤ w) × (w ≤ mostSize)) (e 2 (omega arith)) (h .size))
 
   module _ (p : processesIn s ≡ P′) (shares : recordIn s .shares ≡ recordIn t .shares) where

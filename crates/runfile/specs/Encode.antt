@@ -16,7 +16,7 @@ CallInRange processes Pop = Unit
 CallInRange processes (Take queue) = queue < processes
 
 pub record InRanges (f : RunFile) : Type 0 where
-  pub width : (1 ≤ f .width) × (f .width ≤ mostWidth)
+  pub width : f .width ≤ mostWidth
   pub size : (1 ≤ f .size) × (f .size ≤ mostSize)
   pub processes : (1 ≤ length (f .shares)) × (length (f .shares) ≤ mostProcesses)
   pub shares : (p : ℕ) → p < length (f .shares) → getD (f .shares) p 0 ≤ longestScript

@@ -157,7 +157,7 @@ section1 s =
     1 when s endsBefore 1
     then 2 when not (eqb (byteAt s 0) sectionCount)
     then 1 when s endsBefore 3
-    then 2 when outside 1 mostWidth (widthIn s)
+    then 2 when ltb mostWidth (widthIn s)
     then 2 when outside 1 mostSize (sizeIn s)
 
 abbrev pub section2 : List ℕ → ℕ

@@ -52,8 +52,8 @@ cases =
     gives 6 (scheduled 16 1 (replicate 4097 0)) ∷
     -- K10: the empty file
     gives 1 [] ∷
-    -- K11: W from 1 to 16, C from 1 to 64
-    gives 2 (boxed 0 4) ∷
+    -- K11: W from 0 to 16, C from 1 to 64
+    gives 0 (boxed 0 4) ∷
     gives 0 (boxed 1 4) ∷
     gives 0 (boxed 16 4) ∷
     gives 2 (boxed 17 4) ∷
@@ -71,7 +71,7 @@ cases =
     gives 2 (3 ∷ 8 ∷ 4 ∷ 1 ∷ 0 ∷ 0 ∷ 0 ∷ 0 ∷ 0 ∷ []) ∷
     gives 2 (3 ∷ []) ∷
     gives 1 (2 ∷ []) ∷
-    gives 1 (2 ∷ 0 ∷ []) ∷
+    gives 1 (2 ∷ 17 ∷ []) ∷
     -- 3: P from 1 to 8
     gives 3 (2 ∷ 8 ∷ 4 ∷ 0 ∷ 0 ∷ 0 ∷ 0 ∷ 0 ∷ []) ∷
     gives 0 (2 ∷ 8 ∷ 4 ∷ 8 ∷ 0 ∷ 0 ∷ 0 ∷ 0 ∷ 0 ∷ 0 ∷ 0 ∷ 0 ∷ 0 ∷ 0 ∷ 0 ∷ 0 ∷ []) ∷

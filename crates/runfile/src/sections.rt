@@ -66,7 +66,7 @@ fn section_1(file: &[u8]) -> u8
     if file.len() < PROCESSES_PLACE {
         return 1;
     }
-    if is_outside(1, MOST_WIDTH, file[WIDTH_PLACE]) {
+    if MOST_WIDTH < file[WIDTH_PLACE] {
         return 2;
     }
     when(2, is_outside(1, MOST_SIZE, file[SIZE_PLACE]))

@@ -31,7 +31,7 @@ pub record Sizes : Type 0 where
   pub processes : ℕ
 
 pub record Fit (f : Sizes) : Type 0 where
-  pub width : (1 ≤ f .width) × (f .width ≤ 16)
+  pub width : f .width ≤ 16
   pub size : (1 ≤ f .size) × (f .size ≤ 64)
   pub processes : (1 ≤ f .processes) × (f .processes ≤ 8)
 
@@ -101,8 +101,7 @@ module _ (f : Sizes) (h : Fit f) where
       let e : inRange (f .width) (f .size) (length (slotsAt s q)) (queueAt (s .bench) q .word) (r .stage) ≡ true =
       range-in (f .width) (f .size) (length (slotsAt s q)) (queueAt (s .bench) q .word) (r .stage) (record {
         sizes = record {
-          width-low = h .width .0;
-          width-high = h .width .1;
+          width-high = h .width;
           size-low = h .size .0;
           size-high = h .size .1;
           all = v .sizes q (k .placed .queue);

@@ -33,7 +33,7 @@ returns-3 c =
 returns-4 : tie.Need-returns-4
 returns-4 c =
     let w = c .before .before .before .before .before .before .words-of in
-    let e : Wrong Width ≡ sizesIn (w .result) = rw (
+    let e : Wrong Size ≡ sizesIn (w .result) = rw (
       ne-eqb _ _ (c .before .before .before .before .if1 .left),
       eq-eqb _ _ (c .before .before .if2 .left),
       le-ltb _ _ (c .before .if3 .left),
@@ -55,27 +55,13 @@ returns-5 c =
 
 returns-6 : tie.Need-returns-6
 returns-6 c =
-    let w = c .before .before .before .before .before .before .before .before .words-of in
-    let e : Wrong Size ≡ sizesIn (w .result) = rw (
-      ne-eqb _ _ (c .before .before .before .before .before .before .if1 .left),
-      eq-eqb _ _ (c .before .before .before .before .if2 .left),
-      le-ltb _ _ (c .before .before .before .if3 .left),
-      le-ltb _ _ (c .before .before .if4 .left),
-      le-ltb _ _ (c .before .if5 .left),
-      lt-ltb _ _ (c .if6 .taken),
-    ) in
-    e ∙ ap sizesIn (w .ensures)
-
-returns-7 : tie.Need-returns-7
-returns-7 c =
-    let w = c .before .before .before .before .before .before .before .before .words-of in
+    let w = c .before .before .before .before .before .before .before .words-of in
     let e : Good (w .result .a) (w .result .b) ≡ sizesIn (w .result) = rw (
-      ne-eqb _ _ (c .before .before .before .before .before .before .if1 .left),
-      eq-eqb _ _ (c .before .before .before .before .if2 .left),
-      le-ltb _ _ (c .before .before .before .if3 .left),
-      le-ltb _ _ (c .before .before .if4 .left),
-      le-ltb _ _ (c .before .if5 .left),
-      le-ltb _ _ (c .if6 .left),
+      ne-eqb _ _ (c .before .before .before .before .before .if1 .left),
+      eq-eqb _ _ (c .before .before .before .if2 .left),
+      le-ltb _ _ (c .before .before .if3 .left),
+      le-ltb _ _ (c .before .if4 .left),
+      le-ltb _ _ (c .if5 .left),
     ) in
     e ∙ ap sizesIn (w .ensures)
 
@@ -89,7 +75,6 @@ read-sizes-spec =
     returns-3
     returns-4
     returns-5
-    returns-6
     (λ c. search needs)
     (λ c. search needs)
-    returns-7)
+    returns-6)

@@ -6,7 +6,6 @@ use Rattle.word.specs.declared.Stage.{Stage}
 use Rattle.word.specs.declared.Stage.the-variants.{Idle, P1, P2, P3, T1, T2, T3, T4, B1, B2, B3, B4, B5, B6, B7}
 
 pub record SizesIn (W C slots : ℕ) : Type 0 where
-  pub width-low : 1 ≤ W
   pub width-high : W ≤ 16
   pub size-low : 1 ≤ C
   pub size-high : C ≤ 64

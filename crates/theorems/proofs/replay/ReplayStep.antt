@@ -94,7 +94,7 @@ module _ (f : RunFile) (h : InRanges f) (s : State) (v : Sound (sizesOf f) s) (c
       let w : Word = queueAt (s .bench) q .word in
       let x : List ℕ = getD (s .slots) q [] in
       let e : inRange (f .width) (f .size) (length x) w z ≡ true = range-in (f .width) (f .size) (length x) w z (record {
-        sizes = record { width-low = h .width .0; width-high = h .width .1; size-low = h .size .0; size-high = h .size .1; all = v .sizes q lt };
+        sizes = record { width-high = h .width; size-low = h .size .0; size-high = h .size .1; all = v .sizes q lt };
         word = v .words q lt;
         stage = i;
       }) in

@@ -1,9 +1,6 @@
 -- The tests are those of `section1`, in its order.
-use mathlib.Core.Path.{_≡_, sym, _∙_}
-use mathlib.Core.Bool.{true, false}
+use mathlib.Core.Path.{_∙_}
 use borrow.Author.Tests.{lt-ltb, le-ltb, ne-eqb}
-use Rattle.runfile.specs.Check.{outside}
-use Rattle.runfile.specs.File.{mostWidth, widthIn}
 use borrow.Author.Needs.{needs}
 use Rattle.runfile.proofs.sections.section_1.Statement.{statement}
 use Rattle.runfile.proofs.sections.section_1.Tie as tie
@@ -21,19 +18,15 @@ returns-3 c = rw (le-ltb _ _ (c .before .before .before .if1 .left), c .before .
 
 returns-4 : tie.Need-returns-4
 returns-4 c =
-    let c3 = c .before .before .before in
-    let s = c3 .before .before .before .before .before .args .file .now in
-    let w : outside 1 mostWidth (widthIn s) ≡ true = sym (c .before .is-outside .ensures) ∙ c .if4 .taken in
-    rw (le-ltb _ _ (c3 .before .before .before .if1 .left), c3 .before .if2 .left, le-ltb _ _ (c3 .if3 .left), w)
+    let c3 = c .before .before in
+    rw (le-ltb _ _ (c3 .before .before .before .if1 .left), c3 .before .if2 .left, le-ltb _ _ (c3 .if3 .left), lt-ltb _ _ (c .if4 .taken))
 
 returns-5 : tie.Need-returns-5
 returns-5 c =
     let c4 = c .before .before .before in
-    let c3 = c4 .before .before .before in
-    let s = c3 .before .before .before .before .before .args .file .now in
-    let w : outside 1 mostWidth (widthIn s) ≡ false = sym (c4 .before .is-outside .ensures) ∙ c4 .if4 .left in
-    rw (le-ltb _ _ (c3 .before .before .before .if1 .left), c3 .before .if2 .left, le-ltb _ _ (c3 .if3 .left), w)
-    (c .when .ensures ∙ rw (c .before .is-outside2 .ensures))
+    let c3 = c4 .before .before in
+    rw (le-ltb _ _ (c3 .before .before .before .if1 .left), c3 .before .if2 .left, le-ltb _ _ (c3 .if3 .left), le-ltb _ _ (c4 .if4 .left))
+    (c .when .ensures ∙ rw (c .before .is-outside .ensures))
 
 pub section-1-spec : {M : Type 1} → statement M
 section-1-spec =
@@ -44,7 +37,6 @@ section-1-spec =
     returns-2
     returns-3
     (λ c. search needs)
-    (λ c κs. search needs)
     returns-4
     (λ c. search needs)
     (λ c κs. search needs)
