@@ -37,7 +37,7 @@ stores w at node n = record { word = w; store = store.Slot at node; reset = fals
 abbrev pub resets : ℕ → Word → ℕ → Next → Stepped
 resets W w g n = record { word = ageTo w 0 (nextTag W g); store = store.Nothing; reset = true; next = n }
 
--- age is still (t, g)
+-- age is still (t, g): then it is "changed" at T4 and B6, also where the word written is the same, as at B6 with no tag and top 0
 abbrev pub sameAge : Word → ℕ → ℕ → Bool
 sameAge w t g = eqb (w .top) t && eqb (w .tag) g
 

@@ -4,7 +4,7 @@ use Prim.Native.Nat.{ℕ}
 use Rattle.queue.specs.Step.{leaves, resets, rowOf, loadedSlot}
 use Rattle.queue.specs.declared.Load.the-variants as Load
 use Rattle.word.specs.declared.Word.{Word}
-use Rattle.word.specs.declared.Stage.the-variants.{P1, P2, T2, T3, T4, B3, B4, B5, B7}
+use Rattle.word.specs.declared.Stage.the-variants.{P1, P2, T2, T3, T4, B3, B4, B5, B6, B7}
 use Rattle.queue.specs.declared.Next.the-variants.{Going, Node, Nil, Full}
 
 abbrev word : ℕ → ℕ → ℕ → Word
@@ -29,6 +29,10 @@ last-node = (refl, refl)
 -- B7 gives the age top 0 and the next tag
 reset : (rowOf 2 4 (word 0 1 2) 0 (B7 1 7 0 2) ≡ resets 2 (word 0 1 2) 2 Nil) × (rowOf 2 4 (word 0 1 2) 0 (B7 1 7 0 2) .word ≡ word 0 0 3)
 reset = (refl, refl)
+
+-- with no tag B6 finds (0, 0) and writes (0, 0): it has changed the age, and returns its node
+no-tag : (rowOf 0 4 (word 0 0 0) 0 (B6 1 7 0 0) ≡ resets 0 (word 0 0 0) 0 (Node 7)) × (rowOf 0 4 (word 0 0 0) 0 (B6 1 7 0 0) .word ≡ word 0 0 0)
+no-tag = (refl, refl)
 
 -- T3 loads slot t and B3 slot b−1; P2 loads none, and stores
 loads : (loadedSlot (T3 2 0 3) ≡ Load.Slot 2) × (loadedSlot (B3 3) ≡ Load.Slot 2) × (loadedSlot (P2 7 3) ≡ Load.Nothing)
