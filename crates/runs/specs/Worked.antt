@@ -1,4 +1,5 @@
--- The worked runs K1 to K8 and K13, computed on the definitions: bytes in; entries, counts and the first queue's row of the table out.
+-- The worked runs K1 to K8 and K13, and K4 with no tag, computed on the definitions: bytes in; entries, counts and the first queue's row of the
+-- table out.
 use Prim.Native.Nat.{ℕ, _-_}
 use mathlib.Core.Path.{_≡_, refl}
 use mathlib.Core.List.{List, [], _∷_, map}
@@ -61,9 +62,13 @@ K3 = record {
   row = 2 ∷ 1 ∷ 0 ∷ 5 ∷ 6 ∷ 0 ∷ 0 ∷ [];
 }
 
+-- K4's file, with a tag of so many bits
+abbrev fileK4 : ℕ → List ℕ
+fileK4 W = 2 ∷ W ∷ 4 ∷ 2 ∷ 5 ∷ 1 ∷ 0 ∷ 6 ∷ 1 ∷ 0 ∷ 1 ∷ 2 ∷ 0 ∷ 0 ∷ 1 ∷ 0 ∷ 2 ∷ 2 ∷ 0 ∷ 0 ∷ 1 ∷ 0 ∷ 3 ∷ 3 ∷ 0 ∷ 0 ∷ 0 ∷ 25 ∷ 0 ∷ 0 ∷ 0 ∷ 1 ∷ 1 ∷ 1 ∷ 0 ∷ 0 ∷ 0 ∷ 0 ∷ 0 ∷ 0 ∷ 0 ∷ 0 ∷ 0 ∷ 0 ∷ 0 ∷ 0 ∷ 0 ∷ 0 ∷ 0 ∷ 0 ∷ 0 ∷ 0 ∷ 1 ∷ []
+
 abbrev pub K4 : Case
 K4 = record {
-  file = 2 ∷ 1 ∷ 4 ∷ 2 ∷ 5 ∷ 1 ∷ 0 ∷ 6 ∷ 1 ∷ 0 ∷ 1 ∷ 2 ∷ 0 ∷ 0 ∷ 1 ∷ 0 ∷ 2 ∷ 2 ∷ 0 ∷ 0 ∷ 1 ∷ 0 ∷ 3 ∷ 3 ∷ 0 ∷ 0 ∷ 0 ∷ 25 ∷ 0 ∷ 0 ∷ 0 ∷ 1 ∷ 1 ∷ 1 ∷ 0 ∷ 0 ∷ 0 ∷ 0 ∷ 0 ∷ 0 ∷ 0 ∷ 0 ∷ 0 ∷ 0 ∷ 0 ∷ 0 ∷ 0 ∷ 0 ∷ 0 ∷ 0 ∷ 0 ∷ 0 ∷ 1 ∷ [];
+  file = fileK4 1;
   entries =
       line 0 0 1 1 1 0 2 4 ∷
       line 0 0 2 1 1 6 11 14 ∷
@@ -77,9 +82,13 @@ K4 = record {
   row = 1 ∷ 1 ∷ 0 ∷ 3 ∷ 0 ∷ 0 ∷ 0 ∷ [];
 }
 
+-- K4 with no tag: the same log and counts as with W = 1
+abbrev pub K4-no-tag : Case
+K4-no-tag = record { file = fileK4 0; entries = K4 .entries; steps = K4 .steps; gone = K4 .gone; row = K4 .row }
+
 abbrev pub K5 : Case
 K5 = record {
-  file = 2 ∷ 2 ∷ 4 ∷ 2 ∷ 5 ∷ 1 ∷ 0 ∷ 6 ∷ 1 ∷ 0 ∷ 1 ∷ 2 ∷ 0 ∷ 0 ∷ 1 ∷ 0 ∷ 2 ∷ 2 ∷ 0 ∷ 0 ∷ 1 ∷ 0 ∷ 3 ∷ 3 ∷ 0 ∷ 0 ∷ 0 ∷ 25 ∷ 0 ∷ 0 ∷ 0 ∷ 1 ∷ 1 ∷ 1 ∷ 0 ∷ 0 ∷ 0 ∷ 0 ∷ 0 ∷ 0 ∷ 0 ∷ 0 ∷ 0 ∷ 0 ∷ 0 ∷ 0 ∷ 0 ∷ 0 ∷ 0 ∷ 0 ∷ 0 ∷ 0 ∷ 1 ∷ [];
+  file = fileK4 2;
   entries =
       line 0 0 1 1 1 0 2 4 ∷
       line 0 0 2 1 1 6 11 14 ∷
@@ -126,7 +135,7 @@ K8 = record {
 }
 
 abbrev pub runs : List Case
-runs = K1 ∷ K2 ∷ K3 ∷ K4 ∷ K5 ∷ K6 ∷ K7 ∷ K8 ∷ []
+runs = K1 ∷ K2 ∷ K3 ∷ K4 ∷ K4-no-tag ∷ K5 ∷ K6 ∷ K7 ∷ K8 ∷ []
 
 -- a buffer that is just long enough for all calls of the file, which all end in these runs
 abbrev pub room : Case → ℕ

@@ -1,10 +1,10 @@
--- The worked runs K1 to K8, K10 and K14 of document 01, in one list: bytes in; number, entries, counts and verdict out.
+-- The worked runs K1 to K8, K10 and K14 of document 01, and K4 with no tag, in one list: bytes in; number, entries, counts and verdict out.
 use Prim.Native.Nat.{ℕ}
 use mathlib.Core.Path.{_≡_, refl}
 use mathlib.Core.List.{List, [], _∷_, map}
 use lib.ListN.{length, getD}
 use Rattle.runs.specs.Run.{Outcome, runOf}
-use Rattle.runs.specs.Worked.{Case, room, K1, K2, K3, K4, K5, K6, K7, K8}
+use Rattle.runs.specs.Worked.{Case, room, K1, K2, K3, K4, K4-no-tag, K5, K6, K7, K8}
 use Rattle.rules.specs.Contents.{before}
 use Rattle.rules.specs.Judge.{judgeOf}
 use Rattle.log.specs.Decode.{entryAt}
@@ -27,7 +27,7 @@ fullTooEarly =
 
 abbrev pub worked : List Worked
 worked =
-    ran K1 0 0 ∷ ran K2 0 0 ∷ ran K3 0 0 ∷ ran K4 17 5 ∷ ran K5 0 0 ∷ ran K6 0 0 ∷ ran K7 0 0 ∷ ran K8 0 0
+    ran K1 0 0 ∷ ran K2 0 0 ∷ ran K3 0 0 ∷ ran K4 17 5 ∷ ran K4-no-tag 17 5 ∷ ran K5 0 0 ∷ ran K6 0 0 ∷ ran K7 0 0 ∷ ran K8 0 0
     -- K10: the empty file
     ∷ refused [] 1
     ∷ judged fullTooEarly 19 1 ∷ []
