@@ -31,3 +31,16 @@ NoneGoneRound = (f : RunFile) → InRanges f → ((s : State) → StateOf f s �
 abbrev pub FewResetsEnough : Type 0
 FewResetsEnough = (file : List ℕ) → Bytes file → (room : ℕ)
     → ((f : RunFile) → fileOf file ≡ good f → (s : State) → StateOf f s → FewResets f s) → runOf file room .gone ≡ 0
+
+-- With no tag (W = 0) fewer than 2^W resets are none at all: whoever stands at T4 has not seen its queue reset since its T1.
+abbrev pub NoResets : RunFile → State → Type 0
+NoResets f s = (p : ℕ) → p < length (f .shares) → rowNumber (processAt (s .bench) p .stage) ≡ rowNumber (T4 0 0 0 0)
+    → queueAt (s .bench) (queueOf p (processAt (s .bench) p .call)) .resets ≡ processAt (s .bench) p .resetsAtT1
+
+abbrev pub FewIsNone : Type 0
+FewIsNone = (f : RunFile) → InRanges f → f .width ≡ 0 → (s : State) → StateOf f s → (FewResets f s → NoResets f s) × (NoResets f s → FewResets f s)
+
+-- and the tag is 0 in every state of the run
+abbrev pub TagIsNone : Type 0
+TagIsNone = (f : RunFile) → InRanges f → f .width ≡ 0 → (s : State) → StateOf f s → (q : ℕ) → q < length (f .shares)
+    → queueAt (s .bench) q .word .tag ≡ 0

@@ -5,9 +5,9 @@ use mathlib.Core.Path.{_≡_, refl, sym, ap, _∙_, subst}
 use mathlib.Core.Bool.{Bool, true, false, cond, _&&_, not}
 use mathlib.Core.List.{List}
 use native.Mathlib.Omega.{arith}
-use native.Mathlib.Nat.{mod-lt, mod-add-mod, zero-mod}
+use native.Mathlib.Nat.{mod-lt, mod-add-mod, mod-one, zero-mod}
 use lib.Dec.{ltb, leb, eqb}
-use lib.ListN.{getD, getD-replicate}
+use lib.ListN.{length, getD, getD-replicate}
 use lib.Pow.{pow-pos}
 use borrow.Author.Tests.{eq-eqb, leb-true, le-leb}
 use Rattle.word.specs.Stages.{rowNumber, atT1}
@@ -20,13 +20,16 @@ use Rattle.word.specs.declared.Stage.{Stage}
 use Rattle.word.specs.declared.Stage.the-variants.{Idle, P1, P2, P3, T1, T2, T3, T4, B1, B2, B3, B4, B5, B6, B7}
 use Rattle.queue.specs.declared.Stepped.{Stepped}
 use Rattle.word.specs.declared.Word.{Word}
+use Rattle.runfile.specs.Encode.{InRanges}
+use Rattle.runfile.specs.File.{RunFile}
 use Rattle.runfile.specs.declared.Call.{Call}
 use Rattle.runfile.specs.declared.Call.the-variants.{Push, Pop, Take}
 use Rattle.runs.specs.Moment.{queueOf, isTake, goneRound}
 use Rattle.runs.specs.Run.{Outcome, closed}
 use Rattle.runs.proofs.InRange.{run-cases}
-use Rattle.theorems.specs.Tags.{TagIsResets, NoneGoneRound, FewResetsEnough}
+use Rattle.theorems.specs.Tags.{TagIsResets, NoneGoneRound, FewResetsEnough, FewIsNone, TagIsNone}
 use Rattle.runs.specs.State.{Process, Queue, State, fresh, nobody, queueAt, processAt, start}
+use Rattle.runs.specs.States.{StateOf}
 use Rattle.base.proofs.Bools.{or-r}
 use Rattle.runs.specs.Turn.{firstStage, begun, processAfter, queueAfter, acted, idle}
 use Rattle.theorems.proofs.queue.Cases.{if-age}
@@ -299,9 +302,12 @@ short f h Ok s₀ z s o = everywhere f h Ok s₀ z (Short f)
       none = λ lt. omega (arith, i .none (omega arith), none-here f h s v (i .right) p r k (λ _ _. omega (arith, i .few (queueOf p (r .call)) (k .placed .queue))));
     }) s o .1
 
+right : (f : RunFile) → InRanges f → (s : State) → StateOf f s → TagsRight (sizesOf f) s
+right f h s o = short (sizesOf f) (fit f h) (ByScript f) (start f) (start-fresh f h) s (reached f h s o) .right
+
 -- In every state of every run the tag of a queue is its resets mod 2^W.
 pub tag-is-resets : TagIsResets
-tag-is-resets f h s o q lt = short (sizesOf f) (fit f h) (ByScript f) (start f) (start-fresh f h) s (reached f h s o) .right .tags q lt
+tag-is-resets f h s o = right f h s o .tags
 
 -- Where that is so in every state of the run, no take is gone-round.
 pub none-gone-round : NoneGoneRound
@@ -325,3 +331,18 @@ none-gone-round f h few =
 -- The same of files: of a run that is refused there is nothing to show.
 pub few-resets : FewResetsEnough
 few-resets file b room few = run-cases (λ (o : Outcome). o .gone ≡ 0) file b room (λ n low high. refl) (λ f e h. none-gone-round f h (few f e))
+
+-- With no tag, fewer than 2^0 resets are none at all: the resets since T1 do not fall.
+pub few-is-none : FewIsNone
+few-is-none f h none s o = (λ few p lt at. omega (arith, few p lt at, since p lt at, one), λ no p lt at. omega (arith, no p lt at, one))
+  where
+    one : 2 ^ f .width ≡ 1
+    one = rw none
+
+    since : (p : ℕ) → p < length (f .shares) → rowNumber (processAt (s .bench) p .stage) ≡ 7
+        → processAt (s .bench) p .resetsAtT1 ≤ queueAt (s .bench) (queueOf p (processAt (s .bench) p .call)) .resets
+    since p lt at = right f h s o .loaded-tags p lt .thief (rw at refl) .0
+
+-- With no tag, the tag is 0 in every state of every run.
+pub tag-is-none : TagIsNone
+tag-is-none f h none s o q lt = tag-is-resets f h s o q lt ∙ ap (λ (w : ℕ). queueAt (s .bench) q .resets % 2 ^ w) none ∙ mod-one (queueAt (s .bench) q .resets)
