@@ -43,7 +43,7 @@ fn damage_sizes(random: &mut Random, file: &mut [u8], layout: &Layout) {
     let off = one_off(random, file[3]);
     match random.below(5) {
         0 => file[0] = random.pick(&[0, 1, 3]),
-        1 => file[1] = random.pick(&[0, 17, 255]),
+        1 => file[1] = random.pick(&[17, 32, 255]),
         2 => file[2] = random.pick(&[0, 65, 255]),
         3 => file[3] = random.pick(&[0, 9, off]),
         _ if lengths.is_empty() => {}

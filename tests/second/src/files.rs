@@ -76,7 +76,7 @@ pub fn good_file(random: &mut Random) -> File {
     }
 }
 
-/// An owner that pushes and pops by turns, so that its tag goes round, and thieves that are slow.
+/// An owner that pushes and pops by turns, so that its tag goes round or has no bits, and thieves that are slow.
 fn going_round(random: &mut Random) -> File {
     let mut nodes = Nodes::new(random);
     let processes = random.between(2, 4);
@@ -87,7 +87,7 @@ fn going_round(random: &mut Random) -> File {
         scripts[0].push(Call::BottomPop);
     }
     File {
-        tag_bits: random.pick(&[1, 1, 1, 1, 1, 2, 3, 4]),
+        tag_bits: random.pick(&[0, 0, 1, 1, 1, 1, 1, 2, 3, 4]),
         capacity: random.pick(&[1, 2, 64]),
         schedule: slow_thieves(random, processes, 10 * scripts[0].len()),
         scripts,
@@ -114,7 +114,7 @@ fn any_good_file(random: &mut Random) -> File {
     let scripts: Vec<Vec<Call>> = scripts.collect();
     let calls = scripts.iter().map(Vec::len).sum();
     File {
-        tag_bits: random.pick(&[1, 1, 1, 1, 2, 2, 3, 4, 5, 8, 15, 16]),
+        tag_bits: random.pick(&[0, 0, 0, 1, 1, 1, 1, 2, 2, 3, 4, 5, 8, 15, 16]),
         capacity: random.pick(&[1, 1, 2, 2, 3, 4, 5, 32, 63, 64]),
         schedule: schedule(random, processes, calls),
         scripts,

@@ -10,6 +10,7 @@ pub struct Mix {
     runs: [usize; 10],
     judged: [usize; 20],
     gone_round: usize,
+    no_tag: usize,
     racks: [usize; 23],
     files_of_racks: [usize; 10],
     /// A run without gone-round takes whose log the judge found fault with: there must be none.
@@ -33,6 +34,7 @@ impl Mix {
         }
         log.truncate(written);
         self.gone_round += usize::from(gone_round > 0);
+        self.no_tag += usize::from(file[1] == 0);
         if gone_round == 0 && second::judge(&log).0 != 0 {
             let file = file.to_vec();
             self.faulted = Some(Case::Run { room, file });
@@ -55,8 +57,8 @@ impl Mix {
 
 impl fmt::Display for Mix {
     fn fmt(&self, out: &mut fmt::Formatter) -> fmt::Result {
-        let gone_round = format!(" (gone round {})", self.gone_round);
-        write_counts("runs", &self.runs, &gone_round, out)?;
+        let note = format!(" (gone round {}, no tag {})", self.gone_round, self.no_tag);
+        write_counts("runs", &self.runs, &note, out)?;
         write_counts("logs", &self.judged, "", out)?;
         write_counts("racks", &self.racks, "", out)?;
         write_counts("files of racks", &self.files_of_racks, "", out)

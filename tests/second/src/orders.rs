@@ -39,6 +39,7 @@ fn small_files() -> Vec<File> {
         small(1, 4, &[&ROUND, &STEALS], &[]),
         small(1, 1, &[&TWO_ROUNDS, &[STEAL]], &[]),
         small(2, 1, &[&TWO_ROUNDS, &[STEAL]], &[]),
+        small(0, 1, &[&TWO_ROUNDS, &[STEAL]], &[]),
         small(1, 2, &[&TWO_NODES, &[STEAL]], &[]),
         small(1, 2, &[&TWO_NODES, &STEALS], &pushed_two),
         small(1, 1, &[&ONE_TOO_MANY, &STEALS], &pushed),

@@ -79,7 +79,7 @@ fn holds(good: bool, number: u16) -> Result<(), u16> {
 fn read_sizes(rest: &mut &[u8]) -> Result<[u8; 2], u16> {
     holds(take_byte(rest)? == 2, 2)?;
     let sizes = take(rest, 2)?;
-    holds((1..=16).contains(&sizes[0]), 2)?;
+    holds(sizes[0] <= 16, 2)?;
     holds((1..=64).contains(&sizes[1]), 2)?;
     Ok([sizes[0], sizes[1]])
 }

@@ -90,6 +90,7 @@ fn runs() -> Vec<(&'static str, Vec<u8>, &'static str)> {
         ("K2", k2, K2_OUTPUT),
         ("K3", k3, K3_OUTPUT),
         ("K4", k4_with(1), K4_OUTPUT),
+        ("K4, W = 0", k4_with(0), K4_OUTPUT),
         ("K5", k4_with(2), K5_OUTPUT),
         ("K6", file(&K6, &[0; 4]), K6_OUTPUT),
         ("K7", file(&K7, &[0]), K7_OUTPUT),
@@ -109,7 +110,6 @@ fn refusals() -> Vec<(&'static str, String, String)> {
     let refused = [
         ("K9, 4097", file(&K8, &[0; 4097]), most, 6),
         ("K10", vec![], most, 1),
-        ("K11, W = 0", with(1, 0), most, 2),
         ("K11, W = 17", with(1, 17), most, 2),
         ("K11, C = 0", with(2, 0), most, 2),
         ("K11, C = 65", with(2, 65), most, 2),
