@@ -151,7 +151,7 @@ pub(crate) fn not_opened(why: SizesWhy) {
             b"not run: nothing on the line: W and C are wanted first, as in 8 4\n",
         ),
         SizesWhy::NotTwo => text(b"not run: the first line takes 2 numbers: W C\n"),
-        SizesWhy::Width => text(b"not run: W is a number from 1 to 16\n"),
+        SizesWhy::Width => text(b"not run: W is a number from 0 to 16\n"),
         SizesWhy::Size => text(b"not run: C is a number from 1 to 64\n"),
     }
 }
