@@ -26,8 +26,8 @@ extern "C" {
  * report[1]: entries, the calls that ended, which are the entries of the log;
  * report[2]: steps, those of the closing among them;
  * report[3]: gone-round takes: successful takes whose queue was reset since their first step;
- * table[67 * q], q from 0 to 7: queue q after the closing: bottom, top, tag and 64 slots, unused ones 0; all 0 for a queue
- *            that no process of the file owns.
+ * table[67 * q], q from 0 to 7: queue q after the closing: bottom, top, tag (always 0 where the file's W is 0, for boxes with no
+ *            tag) and 64 slots, unused ones 0; all 0 for a queue that no process of the file owns.
  *
  * A refusal gives 0, leaves every byte at `log` as it was, and sets all of report but its number, and all of table, to 0. */
 size_t scarpgoblet_run(const uint8_t *file, size_t file_len, uint8_t *log, size_t log_len, uint16_t report[4], uint16_t table[536]);
