@@ -29,7 +29,7 @@ static unsigned check(const uint8_t *f, size_t len) {
     if (len < 1) return 1;
     if (f[0] != 2) return 2;
     if (len < 3) return 1;
-    if (f[1] < 1 || f[1] > 16 || f[2] < 1 || f[2] > 64) return 2;
+    if (f[1] > 16 || f[2] < 1 || f[2] > 64) return 2;
     if (len < 4) return 1;
     unsigned p = f[3], sum = 0;
     if (p < 1 || p > 8) return 3;
