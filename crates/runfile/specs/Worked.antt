@@ -6,7 +6,7 @@ use Prim.Native.Nat.{ℕ, suc}
 use lib.ListN.{replicate, drop}
 use Rattle.base.specs.Lists.{listOf}
 use Rattle.runfile.specs.declared.Call.the-variants.{Push, Pop, Take}
-use Rattle.runfile.specs.File.{good, fileOf, readingOf, numberIn, laterSections, lengthAt, callsBefore, callAt, stepPlace}
+use Rattle.runfile.specs.File.{good, fileOf, readingOf, numberIn, laterSections, lengthAt, callsBefore, callAt, stepPlace, wrongAt}
 use Rattle.runfile.specs.Encode.{callsBytes}
 
 pub record Case : Type 0 where
@@ -40,10 +40,6 @@ popping n = scripted n (callsBytes (replicate n Pop))
 
 abbrev pushBytes : List ℕ → List ℕ
 pushBytes nodes = callsBytes (map Push nodes)
-
--- eight processes with all the calls that there can be, pushes of 256 nodes; no schedule
-abbrev pushing : List ℕ → List ℕ
-pushing nodes = 2 ∷ 8 ∷ 4 ∷ 8 ∷ (replicate 8 32 ++ (1 ∷ 0 ∷ (pushBytes nodes ++ (0 ∷ 0 ∷ []))))
 
 abbrev pub cases : List Case
 cases =
@@ -107,9 +103,6 @@ cases =
     -- 5: a wrong code before the repeat, and after it
     gives 4 (scripted 3 (pushBytes (7 ∷ []) ++ (4 ∷ 0 ∷ 0 ∷ pushBytes (7 ∷ [])))) ∷
     gives 5 (scripted 3 (pushBytes (7 ∷ 7 ∷ []) ++ (4 ∷ 0 ∷ 0 ∷ []))) ∷
-    -- 5: the last of 256 pushes repeats the first; and 256 nodes
-    gives 5 (pushing (listOf 255 suc ++ (1 ∷ []))) ∷
-    gives 0 (pushing (listOf 256 suc)) ∷
     -- 6: a process not below P; a length that is wrong, and steps that are missing
     gives 6 (scheduled 0 1 (1 ∷ [])) ∷
     gives 0 (scheduled 0 1 (0 ∷ [])) ∷
@@ -155,6 +148,14 @@ numbersDue = map (λ (c : Case). c .number)
 pub worked : (numbersGiven cases ≡ numbersDue cases) × (numbersGiven orderCases ≡ numbersDue orderCases)
 unfolding fileOf
 worked = (refl, refl)
+
+-- Eight processes, 256 pushes, no schedule: the number of the last call, where it repeats the first and where it does not. The whole files are run by
+-- the tests, since computing every call of them takes seconds.
+abbrev pushing : List ℕ → List ℕ
+pushing nodes = 2 ∷ 8 ∷ 4 ∷ 8 ∷ (replicate 8 32 ++ (1 ∷ 0 ∷ (pushBytes nodes ++ (0 ∷ 0 ∷ []))))
+
+last-push : (wrongAt (pushing (listOf 255 suc ++ (1 ∷ []))) 8 255 ≡ 5) × (wrongAt (pushing (listOf 256 suc)) 8 255 ≡ 0)
+last-push = (refl, refl)
 
 -- K1's file, a line a section, and what it says
 abbrev pub k1 : List ℕ
