@@ -1,9 +1,8 @@
 // Section 3's calls: each by its code and argument, and the first that is wrong.
 ghost use mathlib.Core.Path.{_≡_};
-ghost use Prim.Native.Nat.{_+_, _≤_};
-ghost use lib.ListN.{length};
+ghost use Prim.Native.Nat.{_+_};
 ghost use Rattle.runfile.specs.Check.{firstOf};
-ghost use Rattle.runfile.specs.File.{callPlace, callOf, codedAt, callAt, firstCalls, wrongAt};
+ghost use Rattle.runfile.specs.File.{callOf, codedAt, callAt, firstCalls, wrongAt};
 ghost use Rattle.runfile.specs.inner.Marks.{Marks};
 use crate::Call;
 use crate::Coded;
@@ -87,7 +86,6 @@ fn wrong_call(file: &[u8], processes: u8, k: u16, marks: &mut [u8; MARK_BYTES]) 
 
 // The number that refuses the first wrong call, 0 where there is none.
 pub(crate) fn first_wrong(file: &[u8], processes: u8, calls: u16) -> u8
-    requires { ⌜ callPlace processes calls ≤ length (now file) ⌝ }
     ensures { λ r. ⌜ r ≡ firstOf (wrongAt (now (file .entry)) processes) calls ⌝ }
 {
     let mut marks = [0u8; MARK_BYTES];
