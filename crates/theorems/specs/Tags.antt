@@ -1,6 +1,7 @@
 -- The tag counts resets, and goes round: fewer than 2^W resets during each top pop are enough for gone-round to be 0.
 use Prim.Native.Nat.{ℕ, _+_, _%_, _^_, _<_}
 use mathlib.Core.Path.{_≡_}
+use mathlib.Core.Logic.{_↔_}
 use mathlib.Core.List.{List}
 use lib.ListN.{length}
 use Rattle.base.specs.Bytes.{Bytes}
@@ -38,7 +39,7 @@ NoResets f s = (p : ℕ) → p < length (f .shares) → rowNumber (processAt (s 
     → queueAt (s .bench) (queueOf p (processAt (s .bench) p .call)) .resets ≡ processAt (s .bench) p .resetsAtT1
 
 abbrev pub FewIsNone : Type 0
-FewIsNone = (f : RunFile) → InRanges f → f .width ≡ 0 → (s : State) → StateOf f s → (FewResets f s → NoResets f s) × (NoResets f s → FewResets f s)
+FewIsNone = (f : RunFile) → InRanges f → f .width ≡ 0 → (s : State) → StateOf f s → FewResets f s ↔ NoResets f s
 
 -- and the tag is 0 in every state of the run
 abbrev pub TagIsNone : Type 0
