@@ -5,7 +5,7 @@ use Prim.Native.Nat.{ℕ}
 use borrow.Author.Tests.{eqb-true}
 use lib.Dec.{eqb}
 use Rattle.log.specs.declared.What.{What}
-use Rattle.log.specs.declared.What.the-variants.{Pushed, Full, BottomNode, BottomNil, TopNode, TopNil}
+use Rattle.log.specs.declared.What.the-variants.{Pushed, Full, BottomNode, BottomNil, TopNode, TopNil, TopLost}
 use Rattle.log.specs.Numbers.{kindOf, resultOf, whatOf, same}
 
 pub what-back : (w : What) → whatOf (kindOf w) (resultOf w) ≡ w
@@ -15,6 +15,7 @@ what-back BottomNode = refl
 what-back BottomNil = refl
 what-back TopNode = refl
 what-back TopNil = refl
+what-back TopLost = refl
 
 pub same-refl : (w : What) → same w w ≡ true
 same-refl Pushed = refl
@@ -23,6 +24,7 @@ same-refl BottomNode = refl
 same-refl BottomNil = refl
 same-refl TopNode = refl
 same-refl TopNil = refl
+same-refl TopLost = refl
 
 pub same-of : (w x : What) → x ≡ w → same w x ≡ true
 same-of w x h = ap (same w) h ∙ same-refl w

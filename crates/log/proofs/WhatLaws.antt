@@ -8,11 +8,11 @@ use lib.ListN.{getD}
 use denote.Enum.Declared.{tagOf}
 use Rattle.log.proofs.What.{the-type}
 use Rattle.log.specs.declared.What.{What}
-use Rattle.log.specs.declared.What.the-variants.{Pushed, Full, BottomNode, BottomNil, TopNode, TopNil}
+use Rattle.log.specs.declared.What.the-variants.{Pushed, Full, BottomNode, BottomNil, TopNode, TopNil, TopLost}
 
 -- the variants by their places in the enum
 abbrev pub at : ℕ → What
-at k = getD (Pushed ∷ Full ∷ BottomNode ∷ BottomNil ∷ TopNode ∷ TopNil ∷ []) k Pushed
+at k = getD (Pushed ∷ Full ∷ BottomNode ∷ BottomNil ∷ TopNode ∷ TopNil ∷ TopLost ∷ []) k Pushed
 
 at-place : (w : What) → at (tagOf the-type w) ≡ w
 at-place Pushed = refl
@@ -21,6 +21,7 @@ at-place BottomNode = refl
 at-place BottomNil = refl
 at-place TopNode = refl
 at-place TopNil = refl
+at-place TopLost = refl
 
 module _ {A : Type 0} (f : What → A) (a : A) where
   abbrev pub Each : List ℕ → Type 0

@@ -1,10 +1,10 @@
 -- The log's numbers as document 01, "The log", gives them, each once, and which calls have a moment.
 use Prim.Native.Nat.{ℕ}
-use mathlib.Core.Bool.{Bool, true, false, cond, _&&_}
+use mathlib.Core.Bool.{Bool, true, false, cond, _&&_, _||_}
 use lib.Dec.{eqb}
 use Rattle.log.specs.declared.Entry.{Entry}
 use Rattle.log.specs.declared.What.{What}
-use Rattle.log.specs.declared.What.the-variants.{Pushed, Full, BottomNode, BottomNil, TopNode, TopNil}
+use Rattle.log.specs.declared.What.the-variants.{Pushed, Full, BottomNode, BottomNil, TopNode, TopNil, TopLost}
 
 -- kinds
 abbrev pub push : ℕ
@@ -27,6 +27,13 @@ done = 1
 abbrev pub full : ℕ
 full = 2
 
+-- NIL at T4: a top pop that lost the race
+abbrev pub lost : ℕ
+lost = 3
+
+abbrev pub mostResult : ℕ
+mostResult = lost
+
 -- stands where there is no moment
 abbrev pub noMoment : ℕ
 noMoment = 65535
@@ -38,6 +45,7 @@ kindOf BottomNode = bottomPop
 kindOf BottomNil = bottomPop
 kindOf TopNode = topPop
 kindOf TopNil = topPop
+kindOf TopLost = topPop
 
 abbrev pub resultOf : What → ℕ
 resultOf Pushed = done
@@ -46,6 +54,7 @@ resultOf BottomNode = done
 resultOf BottomNil = nil
 resultOf TopNode = done
 resultOf TopNil = nil
+resultOf TopLost = lost
 
 abbrev pub bearsMoment : What → Bool
 bearsMoment Pushed = true
@@ -54,15 +63,21 @@ bearsMoment BottomNode = true
 bearsMoment BottomNil = true
 bearsMoment TopNode = true
 bearsMoment TopNil = false
+bearsMoment TopLost = false
 
--- what a kind and a result say happened; rule 1 refuses all pairs but the six of `kindOf` and `resultOf`
+-- what a kind and a result say happened; rule 1 refuses all pairs but the seven of `kindOf` and `resultOf`
 abbrev pub whatOf : ℕ → ℕ → What
 whatOf kind result =
     cond (eqb kind push) (cond (eqb result done) Pushed Full)
-    (cond (eqb kind bottomPop) (cond (eqb result done) BottomNode BottomNil) (cond (eqb result done) TopNode TopNil))
+    (cond (eqb kind bottomPop) (cond (eqb result done) BottomNode BottomNil)
+    (cond (eqb result done) TopNode (cond (eqb result lost) TopLost TopNil)))
 
 abbrev pub what : Entry → What
 what e = whatOf (e .kind) (e .result)
 
 abbrev pub same : What → What → Bool
 same a b = eqb (kindOf a) (kindOf b) && eqb (resultOf a) (resultOf b)
+
+-- a top pop with NIL, at T2 or at T4
+abbrev pub isTopNil : What → Bool
+isTopNil w = same TopNil w || same TopLost w

@@ -5,14 +5,19 @@ use mathlib.Core.List.{List, [], _∷_}
 use Prim.Native.Nat.{ℕ}
 use Rattle.log.specs.Decode.{firstEntry, entryAt, noEntry, logLength}
 use Rattle.log.specs.Encode.{headBytes, entryBytes, longestLog}
-use Rattle.log.specs.Numbers.{kindOf, resultOf, bearsMoment, whatOf, same}
+use Rattle.log.specs.Numbers.{kindOf, resultOf, bearsMoment, whatOf, same, isTopNil}
 use Rattle.log.specs.declared.Entry.{Entry}
-use Rattle.log.specs.declared.What.the-variants.{Pushed, Full, BottomNil, TopNode, TopNil}
+use Rattle.log.specs.declared.What.the-variants.{Pushed, Full, BottomNil, TopNode, TopNil, TopLost}
 
 numbered : (kindOf Full ≡ 1) × (kindOf BottomNil ≡ 2) × (kindOf TopNode ≡ 3) × (resultOf Full ≡ 2) × (resultOf Pushed ≡ 1) × (resultOf TopNil ≡ 0)
     × (bearsMoment BottomNil ≡ true) × (bearsMoment TopNil ≡ false) × (whatOf 1 2 ≡ Full) × (whatOf 3 0 ≡ TopNil)
     × (same TopNil TopNil ≡ true) × (same TopNil BottomNil ≡ false)
 numbered = (refl, refl, refl, refl, refl, refl, refl, refl, refl, refl, refl, refl)
+
+-- C-15: NIL at T4 is 3, of a top pop only; both have no moment, and both are a top pop with NIL
+lost-race : (kindOf TopLost ≡ 3) × (resultOf TopLost ≡ 3) × (bearsMoment TopLost ≡ false) × (whatOf 3 3 ≡ TopLost) × (whatOf 2 3 ≡ BottomNil)
+    × (same TopNil TopLost ≡ false) × (isTopNil TopLost ≡ true) × (isTopNil TopNil ≡ true) × (isTopNil TopNode ≡ false) × (isTopNil BottomNil ≡ false)
+lost-race = (refl, refl, refl, refl, refl, refl, refl, refl, refl, refl)
 
 -- 0 0 2 0 0 6 12 15
 abbrev last : Entry

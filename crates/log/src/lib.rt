@@ -30,6 +30,7 @@ pub enum What {
     BottomNil,
     TopNode,
     TopNil,
+    TopLost,
 }
 
 // Kinds.
@@ -39,12 +40,16 @@ pub const BOTTOM_POP: u8 = 2;
 
 pub const TOP_POP: u8 = 3;
 
-// Results; DONE is also that of a pop with a node.
+// Results; DONE is also that of a pop with a node, and LOST that of a top pop with NIL at T4.
 pub const NIL: u8 = 0;
 
 pub const DONE: u8 = 1;
 
 pub const FULL: u8 = 2;
+
+pub const LOST: u8 = 3;
+
+pub const MOST_RESULT: u8 = LOST;
 
 // Stands where there is no moment.
 pub const NO_MOMENT: u16 = 65535;

@@ -4,6 +4,7 @@ ghost use Rattle.log.specs.Numbers.{kindOf, resultOf, whatOf};
 use crate::BOTTOM_POP;
 use crate::DONE;
 use crate::FULL;
+use crate::LOST;
 use crate::NIL;
 use crate::PUSH;
 use crate::TOP_POP;
@@ -16,7 +17,7 @@ pub fn kind_of(what: What) -> u8
     match what {
         What::Pushed | What::Full => PUSH,
         What::BottomNode | What::BottomNil => BOTTOM_POP,
-        What::TopNode | What::TopNil => TOP_POP,
+        What::TopNode | What::TopNil | What::TopLost => TOP_POP,
     }
 }
 
@@ -26,6 +27,7 @@ pub fn result_of(what: What) -> u8
 {
     match what {
         What::Full => FULL,
+        What::TopLost => LOST,
         What::BottomNil | What::TopNil => NIL,
         _ => DONE,
     }
@@ -49,6 +51,9 @@ pub fn what_of(kind: u8, result: u8) -> What
     }
     if result == DONE {
         return What::TopNode;
+    }
+    if result == LOST {
+        return What::TopLost;
     }
     What::TopNil
 }
