@@ -11,8 +11,8 @@ use lib.ListN.{length}
 use Rattle.base.specs.Bytes.{Bytes}
 use Rattle.log.specs.declared.Entry.{Entry}
 use Rattle.log.specs.declared.What.{What}
-use Rattle.log.specs.declared.What.the-variants.{Pushed, Full, BottomNode, BottomNil, TopNode, TopNil}
-use Rattle.log.specs.Numbers.{bearsMoment, what, same}
+use Rattle.log.specs.declared.What.the-variants.{Pushed, Full, BottomNode, BottomNil, TopNode, TopNil, TopLost}
+use Rattle.log.specs.Numbers.{bearsMoment, what, same, isTopNil}
 use Rattle.log.proofs.NumbersLaws.{same-of, same-true}
 use Rattle.log.specs.Decode.{sectionCountOf, processesOf, slotsOf, entryCountOf, entryAt}
 use Rattle.log.specs.Encode.{Log, sectionCount, InRange, logBytes, decoded}
@@ -71,6 +71,7 @@ module _ (f : ℕ → Entry) (n : ℕ) where
   lawful-from e c BottomNil h = ap isEmpty h
   lawful-from e c TopNode h = ap (topIs (e .node)) (h .1) ∙ eq-eqb (e .node) (e .node) refl
   lawful-from e c TopNil h = refl
+  lawful-from e c TopLost h = refl
 
   lawful-to : (e : Entry) (c : List ℕ) (w : What) → (bearsMoment w ≡ true → lawful (fresh f n e) w (e .node) c ≡ true) → Rule4 f n e c w
   lawful-to e c Pushed h = fresh-to e c (h refl)
@@ -79,6 +80,7 @@ module _ (f : ℕ → Entry) (n : ℕ) where
   lawful-to e c BottomNil h = empty-to c (h refl)
   lawful-to e c TopNode h = top-to (e .node) c (h refl)
   lawful-to e c TopNil h = tt
+  lawful-to e c TopLost h = tt
 
   -- rule 5
   module _ (e : Entry) where
@@ -166,8 +168,8 @@ module _ (f : ℕ → Entry) (n : ℕ) where
       (none (λ j. breaks4 f n j && eqb (f j .moment) (worst4 f n)) n (λ j u. ap (λ (t : Bool). t && eqb (f j .moment) (worst4 f n))
       (guarded (bears (f j)) (not (lawfulAt f n (f j))) (λ b. ap not (lawful-from (f j) (before f n (f j .queue) (f j .moment)) (what (f j))
       (g .rule4 j u))))))
-      (none (breaks5 f n) n (λ j u. guarded (same TopNil (what (f j))) (not (hasCause f n (f j)))
-      (λ t. ap not (cause-from (f j) (g .rule5 j u (sym (same-true TopNil (what (f j)) t)))))))
+      (none (breaks5 f n) n (λ j u. guarded (isTopNil (what (f j))) (not (hasCause f n (f j)))
+      (λ t. ap not (cause-from (f j) (g .rule5 j u t)))))
       (none (breaks6 f C) n (λ j u. guarded (same Full (what (f j))) (ltb (pushes j) (C + pops j))
       (λ t. le-ltb (pushes j) (C + pops j) (rule6-from f n C j u (g .rule6 j u (sym (same-true Full (what (f j)) t)))))))
       refl))
@@ -191,7 +193,7 @@ module _ (f : ℕ → Entry) (n : ℕ) where
     rule4 = λ j u. lawful-to (f j) (before f n (f j .queue) (f j .moment)) (what (f j)) (λ b.
         not-f (lawfulAt f n (f j)) (sym (ap (λ (t : Bool). t && not (lawfulAt f n (f j))) b) ∙ none-unlawful small h4 j u));
     rule5 = λ j u t. cause-to (f j) (not-f (hasCause f n (f j))
-        (sym (ap (λ (s : Bool). s && not (hasCause f n (f j))) (same-of TopNil (what (f j)) t)) ∙ none-passes (breaks5 f n) n h5 j u));
+        (sym (ap (λ (s : Bool). s && not (hasCause f n (f j))) t) ∙ none-passes (breaks5 f n) n h5 j u));
     rule6 = λ j u t. rule6-to f n C j u (ltb-false (pushes j) (C + pops j)
         (sym (ap (λ (s : Bool). s && ltb (pushes j) (C + pops j)) (same-of Full (what (f j)) t)) ∙ none-passes (breaks6 f C) n h6 j u));
   }

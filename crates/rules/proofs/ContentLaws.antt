@@ -9,7 +9,7 @@ use borrow.Author.Tests.{lt-ltb, le-ltb, eqb-true}
 use lib.ListN.{length}
 use Rattle.log.specs.declared.Entry.{Entry}
 use Rattle.log.specs.declared.What.{What}
-use Rattle.log.specs.declared.What.the-variants.{Pushed, Full, BottomNode, BottomNil, TopNode, TopNil}
+use Rattle.log.specs.declared.What.the-variants.{Pushed, Full, BottomNode, BottomNil, TopNode, TopNil, TopLost}
 use Rattle.log.specs.Numbers.{what}
 use Rattle.rules.specs.Contents.{happens, eventAt, before, applied, dropLast}
 use Rattle.rules.specs.Rules.{isEmpty, takesTopmost}
@@ -45,6 +45,7 @@ topmost BottomNode c h = inr (refl, eqb-true (length c) 1 h)
 topmost BottomNil c h = contra false h refl
 topmost TopNode c h = inl refl
 topmost TopNil c h = contra false h refl
+topmost TopLost c h = contra false h refl
 
 pub last-one : (c : List ℕ) → length c ≡ 1 → isEmpty (dropLast c) ≡ true
 last-one [] h = absurd (omega arith)

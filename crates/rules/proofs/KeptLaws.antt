@@ -36,6 +36,7 @@ module _ (f : ℕ → Entry) (n : ℕ) where
         own = r .own;
         full-push = r .full-push;
         nil-pop = r .nil-pop;
+        lost-top = r .lost-top;
         node-nil = r .node-nil;
         nil-node = r .nil-node;
         start = r .start;

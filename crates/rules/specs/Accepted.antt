@@ -8,8 +8,8 @@ use mathlib.Core.List.{List, [], _∷_, _++_}
 use lib.ListN.{length, getD}
 use Rattle.log.specs.declared.Entry.{Entry}
 use Rattle.log.specs.declared.What.{What}
-use Rattle.log.specs.declared.What.the-variants.{Pushed, Full, BottomNode, BottomNil, TopNode, TopNil}
-use Rattle.log.specs.Numbers.{push, bottomPop, topPop, nil, full, noMoment, what}
+use Rattle.log.specs.declared.What.the-variants.{Pushed, Full, BottomNode, BottomNil, TopNode, TopNil, TopLost}
+use Rattle.log.specs.Numbers.{push, bottomPop, topPop, nil, full, lost, mostResult, noMoment, what, isTopNil}
 use Rattle.base.specs.Bytes.{Bytes}
 use Rattle.base.specs.Lists.{In, All, Pairs}
 use Rattle.log.specs.Decode.{firstEntry}
@@ -18,23 +18,28 @@ use Rattle.rules.specs.Contents.{bears, before}
 use Rattle.rules.specs.Rules.{lastEnd}
 use Rattle.rules.specs.Judge.{judgeOf}
 
+-- NIL is 0, and 3 at T4
+abbrev pub IsNil : ℕ → Type 0
+IsNil result = (result ≡ nil) ⊎ (result ≡ lost)
+
 -- Rule 1. Fields:
 pub record Rule1 (P : ℕ) (e : Entry) : Type 0 where
   -- process and queue below P;
   pub process : e .process < P
   pub queue : e .queue < P
-  -- kind 1 to 3, result 0 to 2;
+  -- kind 1 to 3, result 0 to 3;
   pub kind-from : push ≤ e .kind
   pub kind-to : e .kind ≤ topPop
-  pub result : e .result ≤ full
+  pub result : e .result ≤ mostResult
   -- a push or bottom pop on its own queue;
   pub own : (e .kind ≡ push) ⊎ (e .kind ≡ bottomPop) → e .process ≡ e .queue
-  -- result 2 for a push only, 0 for pops only;
+  -- result 2 for a push only, 0 for pops only, 3 for a top pop only;
   pub full-push : e .result ≡ full → e .kind ≡ push
   pub nil-pop : e .result ≡ nil → e .kind ≡ push → ⊥
+  pub lost-top : e .result ≡ lost → e .kind ≡ topPop
   -- node 0 exactly for NIL;
-  pub node-nil : e .node ≡ 0 → e .result ≡ nil
-  pub nil-node : e .result ≡ nil → e .node ≡ 0
+  pub node-nil : e .node ≡ 0 → IsNil (e .result)
+  pub nil-node : IsNil (e .result) → e .node ≡ 0
   -- start ≤ end ≤ 32,766.
   pub start : e .start ≤ e .end
   pub end : e .end ≤ lastEnd
@@ -86,6 +91,7 @@ module _ (f : ℕ → Entry) (n : ℕ) where
   -- a top pop gives the top node.
   Rule4 e c TopNode = TopIs (e .node) c
   Rule4 e c TopNil = Unit {0}
+  Rule4 e c TopLost = Unit {0}
 
   -- Rule 5: from moment 2 × start to 2 × end + 1, an instant at which the queue is empty (after all moments up to it),
   pub record EmptyIn (e : Entry) : Type 0 where
@@ -132,8 +138,8 @@ module _ (f : ℕ → Entry) (n : ℕ) where
     pub differ : (i j : ℕ) → i < j → j < n → Differ (f i) (f j)
     -- Rule 4, just before each call's moment,
     pub rule4 : (j : ℕ) → j < n → Rule4 (f j) (before f n (f j .queue) (f j .moment)) (what (f j))
-    -- Rule 5. A top pop with NIL has its cause,
-    pub rule5 : (j : ℕ) → j < n → what (f j) ≡ TopNil → EmptyIn (f j) ⊎ RemovedIn (f j)
+    -- Rule 5. A top pop with NIL, at T2 or at T4, has its cause,
+    pub rule5 : (j : ℕ) → j < n → isTopNil (what (f j)) ≡ true → EmptyIn (f j) ⊎ RemovedIn (f j)
     -- Rule 6. FULL, by place in the log.
     pub rule6 : (j : ℕ) → j < n → what (f j) ≡ Full → Rule6 place C j
 

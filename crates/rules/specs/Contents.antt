@@ -6,7 +6,7 @@ use mathlib.Core.List.{List, [], _∷_, _++_}
 use lib.Dec.{eqb, ltb}
 use Rattle.log.specs.declared.Entry.{Entry}
 use Rattle.log.specs.declared.What.{What}
-use Rattle.log.specs.declared.What.the-variants.{Pushed, Full, BottomNode, BottomNil, TopNode, TopNil}
+use Rattle.log.specs.declared.What.the-variants.{Pushed, Full, BottomNode, BottomNil, TopNode, TopNil, TopLost}
 use Rattle.log.specs.Numbers.{bearsMoment, what}
 use Rattle.rules.specs.Search.{first}
 
@@ -31,6 +31,7 @@ applied BottomNode v c = dropLast c
 applied BottomNil v c = c
 applied TopNode v c = dropFirst c
 applied TopNil v c = c
+applied TopLost v c = c
 
 -- e bears a moment, on queue q; and it is m
 abbrev pub on : ℕ → Entry → Bool

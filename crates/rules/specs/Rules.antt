@@ -7,13 +7,13 @@ use lib.ListN.{length}
 use lib.Dec.{eqb, ltb, leb}
 use Rattle.log.specs.declared.Entry.{Entry}
 use Rattle.log.specs.declared.What.{What}
-use Rattle.log.specs.declared.What.the-variants.{Pushed, Full, BottomNode, BottomNil, TopNode, TopNil}
-use Rattle.log.specs.Numbers.{push, bottomPop, topPop, nil, full, noMoment, what, same}
+use Rattle.log.specs.declared.What.the-variants.{Pushed, Full, BottomNode, BottomNil, TopNode, TopNil, TopLost}
+use Rattle.log.specs.Numbers.{push, bottomPop, topPop, nil, full, lost, mostResult, noMoment, what, same, isTopNil}
 use Rattle.rules.specs.Search.{any, anyFrom}
 use Rattle.rules.specs.Contents.{bears, on, before}
 
--- RULE 1. Fields: process and queue below P; kind 1 to 3, result 0 to 2; a push or bottom pop on its own queue; result 2
--- for a push only, 0 for pops only; node 0 exactly for NIL; start ≤ end ≤ 32,766.
+-- RULE 1. Fields: process and queue below P; kind 1 to 3, result 0 to 3; a push or bottom pop on its own queue; result 2
+-- for a push only, 0 for pops only, 3 for a top pop only (C-15); node 0 exactly for NIL; start ≤ end ≤ 32,766.
 abbrev pub lastEnd : ℕ
 lastEnd = 32766
 
@@ -33,16 +33,24 @@ fullForPush e = not (eqb (e .result) full) || eqb (e .kind) push
 abbrev pub nilForPop : Entry → Bool
 nilForPop e = not (eqb (e .result) nil) || not (eqb (e .kind) push)
 
+-- 3 for a top pop only
+abbrev pub lostForTopPop : Entry → Bool
+lostForTopPop e = not (eqb (e .result) lost) || eqb (e .kind) topPop
+
+-- NIL is 0, and 3 at T4
+abbrev pub isNil : ℕ → Bool
+isNil result = eqb result nil || eqb result lost
+
 -- node 0 exactly for NIL
 abbrev pub nodeUnlessNil : Entry → Bool
-nodeUnlessNil e = Bool·beq (eqb (e .node) 0) (eqb (e .result) nil)
+nodeUnlessNil e = Bool·beq (eqb (e .node) 0) (isNil (e .result))
 
 abbrev pub keeps1 : ℕ → Entry → Bool
 keeps1 P e =
     ltb (e .process) P && ltb (e .queue) P
-    && kindKnown e && leb (e .result) full
+    && kindKnown e && leb (e .result) mostResult
     && onOwnQueue e
-    && fullForPush e && nilForPop e
+    && fullForPush e && nilForPop e && lostForTopPop e
     && nodeUnlessNil e
     && leb (e .start) (e .end) && leb (e .end) lastEnd
 
@@ -113,6 +121,7 @@ lawful new BottomNode v c = bottomIs v c
 lawful new BottomNil v c = isEmpty c
 lawful new TopNode v c = topIs v c
 lawful new TopNil v c = true
+lawful new TopLost v c = true
 
 abbrev pub lawfulAt : (ℕ → Entry) → ℕ → Entry → Bool
 lawfulAt f n e = lawful (fresh f n e) (what e) (e .node) (before f n (e .queue) (e .moment))
@@ -134,6 +143,7 @@ takesTopmost BottomNode c = eqb (length c) 1
 takesTopmost BottomNil c = false
 takesTopmost TopNode c = true
 takesTopmost TopNil c = false
+takesTopmost TopLost c = false
 
 abbrev pub removes : (ℕ → Entry) → ℕ → Entry → Entry → Bool
 removes f n e d =
@@ -144,7 +154,7 @@ abbrev pub hasCause : (ℕ → Entry) → ℕ → Entry → Bool
 hasCause f n e = emptyWithin f n (e .queue) (2 * e .start) (2 * e .end + 1) || any (λ k. removes f n e (f k)) n
 
 abbrev pub breaks5 : (ℕ → Entry) → ℕ → ℕ → Bool
-breaks5 f n j = same TopNil (what (f j)) && not (hasCause f n (f j))
+breaks5 f n j = isTopNil (what (f j)) && not (hasCause f n (f j))
 
 -- RULE 6 (C-12). FULL: on that queue, counting done pushes and node-giving bottom pops after its latest NIL bottom pop and
 -- before the FULL (from the log's beginning if there is none), pushes less pops are at least C. All of it by place in the log.

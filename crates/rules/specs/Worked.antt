@@ -5,8 +5,8 @@ use mathlib.Core.List.{List, [], _∷_, _++_, map}
 use Prim.Native.Nat.{ℕ}
 use Rattle.log.specs.declared.Entry.{Entry}
 use Rattle.log.specs.declared.What.{What}
-use Rattle.log.specs.declared.What.the-variants.{Pushed, Full, BottomNode, BottomNil, TopNode, TopNil}
-use Rattle.log.specs.Numbers.{push, bottomPop, topPop, nil, full, noMoment, kindOf, resultOf}
+use Rattle.log.specs.declared.What.the-variants.{Pushed, Full, BottomNode, BottomNil, TopNode, TopNil, TopLost}
+use Rattle.log.specs.Numbers.{push, bottomPop, topPop, nil, full, lost, noMoment, kindOf, resultOf}
 use Rattle.log.specs.Decode.{entryAt}
 use Rattle.log.specs.Encode.{headBytes, logBytes}
 use Rattle.rules.specs.declared.Verdict.{Verdict}
@@ -41,6 +41,9 @@ accepted P C es = gives 0 0 P C es
 abbrev k1 : List Entry
 k1 = call 0 0 Pushed 7 0 2 4 ∷ call 1 0 TopNode 7 3 8 14 ∷ call 0 0 BottomNil 0 6 12 15 ∷ []
 
+abbrev k2 : What → List Entry
+k2 nothing = call 0 0 Pushed 7 0 2 4 ∷ call 0 0 BottomNode 7 6 11 14 ∷ call 1 0 nothing 0 3 12 noMoment ∷ []
+
 abbrev k4 : Entry → List Entry
 k4 last =
     call 0 0 Pushed 1 0 2 4 ∷ call 0 0 BottomNode 1 6 11 14 ∷ call 0 0 Pushed 2 12 14 28 ∷ call 0 0 BottomNode 2 15 20 32 ∷ call 0 0 Pushed 3 21 23 46
@@ -54,13 +57,20 @@ emptied es = call 0 0 Pushed 7 0 2 4 ∷ call 0 0 BottomNode 7 3 8 8 ∷ es
 abbrev after-two : List Entry → List Entry
 after-two es = call 0 0 Pushed 5 0 2 4 ∷ call 0 0 Pushed 6 3 5 10 ∷ es
 
+abbrev k3 : What → List Entry
+k3 nothing = after-two (call 2 0 TopNode 5 9 12 24 ∷ call 1 0 nothing 0 6 13 noMoment ∷ [])
+
 abbrev worked : List Case
 worked =
     accepted 2 4 k1
-    ∷ accepted 2 4 (call 0 0 Pushed 7 0 2 4 ∷ call 0 0 BottomNode 7 6 11 14 ∷ call 1 0 TopNil 0 3 12 noMoment ∷ [])
+    ∷ accepted 2 4 (k2 TopLost)
     -- K3: NIL with a node remaining, and a lawful race
-    ∷ accepted 3 4 (after-two (call 2 0 TopNode 5 9 12 24 ∷ call 1 0 TopNil 0 6 13 noMoment ∷ []))
+    ∷ accepted 3 4 (k3 TopLost)
     ∷ gives 17 5 2 4 (k4 (call 1 0 TopNode 1 3 24 48))
+    ∷ accepted 2 4 (k4 (call 1 0 TopLost 0 3 24 noMoment))
+    -- C-15: old logs, with 0 for NIL at T4 too
+    ∷ accepted 2 4 (k2 TopNil)
+    ∷ accepted 3 4 (k3 TopNil)
     ∷ accepted 2 4 (k4 (call 1 0 TopNil 0 3 24 noMoment))
     ∷ accepted 1 1 (call 0 0 Pushed 7 0 2 4 ∷ call 0 0 Full 8 3 3 noMoment ∷ [])
     ∷ accepted 1 4 (call 0 0 BottomNil 0 0 0 0 ∷ [])
@@ -106,14 +116,21 @@ worked =
     ∷ accepted 2 4 (call 1 0 TopNil 0 0 2 noMoment ∷ [])
     ∷ gives 14 0 2 4 (fields 0 0 0 nil 0 0 2 4 ∷ [])
     ∷ gives 14 0 2 4 (fields 0 0 4 nil 0 0 2 noMoment ∷ [])
-    ∷ gives 14 0 2 4 (fields 0 0 push 3 7 0 2 4 ∷ [])
+    ∷ gives 14 0 2 4 (fields 1 0 topPop 4 7 0 2 4 ∷ [])
+    ∷ gives 14 0 2 4 (fields 1 0 topPop 4 0 0 2 noMoment ∷ [])
+    ∷ accepted 2 4 (call 1 0 TopLost 0 0 2 noMoment ∷ [])
     ∷ gives 14 0 2 4 (call 0 1 Pushed 7 0 2 4 ∷ [])
     ∷ gives 14 0 2 4 (call 0 1 BottomNil 0 0 2 4 ∷ [])
     ∷ gives 14 0 2 4 (fields 0 0 bottomPop full 7 0 2 4 ∷ [])
     ∷ gives 14 0 2 4 (fields 0 0 topPop full 7 0 2 noMoment ∷ [])
     ∷ gives 14 0 2 4 (fields 0 0 push nil 0 0 2 noMoment ∷ [])
+    ∷ gives 14 0 2 4 (fields 0 0 push lost 0 0 2 noMoment ∷ [])
+    ∷ gives 14 0 2 4 (fields 0 0 push lost 7 0 2 4 ∷ [])
+    ∷ gives 14 0 2 4 (fields 0 0 bottomPop lost 0 0 2 4 ∷ [])
+    ∷ accepted 2 4 (fields 0 0 bottomPop nil 0 0 2 4 ∷ [])
     ∷ gives 14 0 2 4 (call 0 0 Pushed 0 0 2 4 ∷ [])
     ∷ gives 14 0 2 4 (call 0 0 BottomNil 7 0 2 4 ∷ [])
+    ∷ gives 14 0 2 4 (call 1 0 TopLost 7 0 2 noMoment ∷ [])
     ∷ gives 14 0 2 4 (call 0 0 BottomNil 0 3 2 6 ∷ [])
     ∷ gives 14 0 2 4 (call 1 0 TopNil 0 0 32767 noMoment ∷ [])
     ∷ accepted 2 4 (call 1 0 TopNil 0 0 32766 noMoment ∷ [])
@@ -128,6 +145,7 @@ worked =
     -- 16: none where one is wanted, one where none is; the ends of the call's time; a moment twice
     ∷ gives 16 0 1 4 (call 0 0 Pushed 7 0 2 noMoment ∷ [])
     ∷ gives 16 0 2 4 (call 1 0 TopNil 0 0 2 4 ∷ [])
+    ∷ gives 16 0 2 4 (call 1 0 TopLost 0 0 2 4 ∷ [])
     ∷ gives 16 0 1 4 (call 0 0 Full 7 0 0 0 ∷ [])
     ∷ gives 16 0 1 4 (call 0 0 BottomNil 0 1 2 1 ∷ [])
     ∷ accepted 1 4 (call 0 0 BottomNil 0 1 2 2 ∷ [])
@@ -149,8 +167,11 @@ worked =
     ∷ gives 17 0 2 4 (call 0 0 BottomNode 9 0 5 2 ∷ call 1 1 BottomNode 8 0 6 10 ∷ [])
     -- two entries at odds with a queue that holds 7: the first by moment stands later in the file
     ∷ gives 17 2 2 4 (call 0 0 Pushed 7 0 2 4 ∷ call 0 0 BottomNode 9 3 9 18 ∷ call 1 0 TopNode 8 3 10 8 ∷ [])
-    -- 18: a race claimed, and no removal in the window
+    -- 18: a race claimed, and no removal in the window; NIL at T4 has the causes of NIL at T2, an empty queue among them
     ∷ gives 18 2 2 4 (after-two (call 1 0 TopNil 0 6 13 noMoment ∷ []))
+    ∷ gives 18 2 2 4 (after-two (call 1 0 TopLost 0 6 13 noMoment ∷ []))
+    ∷ accepted 2 4 (call 1 0 TopLost 0 0 1 noMoment ∷ call 0 0 Pushed 5 0 2 4 ∷ [])
+    ∷ gives 18 1 2 4 (call 0 0 Pushed 5 0 2 4 ∷ call 1 0 TopLost 0 3 4 noMoment ∷ [])
     -- a removal at the bottom that leaves the topmost node; and one that takes it
     ∷ gives 18 3 2 4 (after-two (call 0 0 BottomNode 6 7 9 16 ∷ call 1 0 TopNil 0 6 13 noMoment ∷ []))
     ∷ accepted 2 4 (call 0 0 Pushed 5 0 2 4 ∷ call 0 0 BottomNode 5 7 9 16 ∷ call 1 0 TopNil 0 6 13 noMoment ∷ [])
