@@ -219,7 +219,7 @@ module _ (f : ℕ → Entry) (n : ℕ) where
       accepted-from P C (z1 .0) (z2 .0) (z3 .0) (z4 .0) (z5 .0) (z6 .0)
 
 -- the entries of a log are those that its bytes give, past its end too
-entries-are : (l : Log) → entryAt (logBytes l) ≡ entryOf (l .entries)
+pub entries-are : (l : Log) → entryAt (logBytes l) ≡ entryOf (l .entries)
 entries-are l = λ j i. entry-decoded l i j
 
 pub accepted-judged : (l : Log) → InRange l → AcceptedLog l → judgeOf (logBytes l) ≡ says 0 0

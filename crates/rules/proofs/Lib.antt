@@ -1,5 +1,7 @@
 -- The judge's number is 0 exactly for an accepted log.
 pub mod AcceptedLaws
+-- Old logs: a result 3 made 0 changes no verdict.
+pub mod OldLaws
 -- Rule 6: the test and the statement, by place and by moments.
 pub mod Rule6Laws
 -- Searches, what an entry says, what a queue holds, and a judge that asks one rule after the other.

@@ -8,5 +8,7 @@ pub mod Rules
 pub mod Judge
 -- The same rules read aloud: when a log is accepted.
 pub mod Accepted
+-- Old logs are judged as before.
+pub mod OldLogs
 -- Worked logs, computed.
 pub mod Worked
