@@ -11,8 +11,8 @@ use lib.Dec.{eqb, ltb, leb}
 use lib.ListN.{length, getD}
 use Rattle.log.specs.declared.Entry.{Entry}
 use Rattle.log.specs.declared.What.{What}
-use Rattle.log.specs.declared.What.the-variants.{BottomNode, TopNode, TopNil}
-use Rattle.log.specs.Numbers.{what, same, bearsMoment}
+use Rattle.log.specs.declared.What.the-variants.{BottomNode, TopNode}
+use Rattle.log.specs.Numbers.{what, same, isTopNil, bearsMoment}
 use Rattle.log.proofs.NumbersLaws.{same-true}
 use Rattle.rules.specs.Search.{any}
 use Rattle.rules.specs.Contents.{bears, on, before, applied}
@@ -215,13 +215,13 @@ module _ (f : ℕ → Entry) (n : ℕ) (keys : List ℕ) (count : ℕ) (cl : Cle
 
   pub query-told : (k : ℕ) → k ≤ count → (held filled took : List ℕ) → Shelves f n keys k held filled took → (j : ℕ) → j < n → Passed k j
       → (e : Entry) → e ≡ f j
-      → (ltb k count && leb (momentAt keys k) (2 * e .end + 1)) ≡ false → same TopNil (what e) ≡ true → uncausedBy held filled took e ≡ breaks5 f n j
+      → (ltb k count && leb (momentAt keys k) (2 * e .end + 1)) ≡ false → isTopNil (what e) ≡ true → uncausedBy held filled took e ≡ breaks5 f n j
   query-told k within held filled took s j u pass e g due nil =
       cause-is f n keys count (cl .ordered) (cl .fields) k within held filled took s e (nil-low e j g u)
       (omega (arith, ap (λ (y : Entry). y .start) g, ap (λ (y : Entry). y .end) g, cl .fields j u .start))
       (not-due k (2 * e .end + 1) due) (omega (arith, ap (λ (y : Entry). y .end) g, pass j (omega arith) u))
       ∙ sym (ap (λ (t : Bool). t && not (hasCause f n e)) nil)
-      ∙ ap (λ (y : Entry). same TopNil (what y) && not (hasCause f n y)) g
+      ∙ ap (λ (y : Entry). isTopNil (what y) && not (hasCause f n y)) g
 
-  pub skip-told : (j : ℕ) (e : Entry) → e ≡ f j → same TopNil (what e) ≡ false → breaks5 f n j ≡ false
-  skip-told j e g h = ap (λ (t : Bool). t && not (hasCause f n (f j))) (sym (ap (λ (y : Entry). same TopNil (what y)) g) ∙ h)
+  pub skip-told : (j : ℕ) (e : Entry) → e ≡ f j → isTopNil (what e) ≡ false → breaks5 f n j ≡ false
+  skip-told j e g h = ap (λ (t : Bool). t && not (hasCause f n (f j))) (sym (ap (λ (y : Entry). isTopNil (what y)) g) ∙ h)

@@ -11,7 +11,7 @@ use lib.ListN.{length, getD, set, take, drop, length-set}
 use lib.Seq.{slice, getD-set-same, getD-set-other, take-set-le, take-set-lt, drop-set-lt}
 use Rattle.log.specs.declared.Entry.{Entry}
 use Rattle.log.specs.declared.What.{What}
-use Rattle.log.specs.declared.What.the-variants.{Pushed, Full, BottomNode, BottomNil, TopNode, TopNil}
+use Rattle.log.specs.declared.What.the-variants.{Pushed, Full, BottomNode, BottomNil, TopNode, TopNil, TopLost}
 use Rattle.log.specs.Numbers.{what, same, bearsMoment}
 use Rattle.log.proofs.NumbersLaws.{same-true}
 use Rattle.rules.specs.Search.{any}
@@ -53,6 +53,7 @@ moved-is TopNode l lo hi v h k = split (leb hi lo) refl
     split true e = past l lo hi hi v (omega arith) ∙ none-top l lo hi (leb-true hi lo e)
     split false e = past l (lo + 1) hi hi v (omega arith) ∙ content-top l lo hi (omega (arith, leb-false hi lo e)) (omega arith)
 moved-is TopNil l lo hi v h k = past l lo hi hi v (omega arith)
+moved-is TopLost l lo hi v h k = past l lo hi hi v (omega arith)
 
 -- the ends after a call, by the ends before
 pub record Bounds (w : What) (lo hi : ℕ) : Type 0 where
@@ -75,6 +76,7 @@ bounds TopNode lo hi h = split (leb hi lo) refl
     split true e = record { from = rw e (omega arith); low = rw e h; high = omega arith }
     split false e = let k = leb-false hi lo e in record { from = rw e (omega arith); low = rw e (omega arith); high = omega arith }
 bounds TopNil lo hi h = record { from = omega arith; low = omega arith; high = omega arith }
+bounds TopLost lo hi h = record { from = omega arith; low = omega arith; high = omega arith }
 
 -- only a push asks whether its node is new
 pub lawful-new : (w : What) (s t : Bool) (v : ℕ) (c : List ℕ) → (w ≡ Pushed → s ≡ t) → lawful s w v c ≡ lawful t w v c
@@ -84,6 +86,7 @@ lawful-new BottomNode s t v c h = refl
 lawful-new BottomNil s t v c h = refl
 lawful-new TopNode s t v c h = refl
 lawful-new TopNil s t v c h = refl
+lawful-new TopLost s t v c h = refl
 
 pub record Row (f : ℕ → Entry) (n : ℕ) (keys : List ℕ) (k : ℕ) (nodes : List ℕ) (q lo hi : ℕ) : Type 0 where
   pub holds : slice lo hi nodes ≡ before f n q (instant keys k)

@@ -12,7 +12,7 @@ use lib.ListN.{length, getD, set, replicate, length-set, length-append}
 use lib.Seq.{getD-set-same, getD-set-other}
 use Rattle.log.specs.declared.Entry.{Entry}
 use Rattle.log.specs.declared.What.{What}
-use Rattle.log.specs.declared.What.the-variants.{Pushed, Full, BottomNode, BottomNil, TopNode, TopNil}
+use Rattle.log.specs.declared.What.the-variants.{Pushed, Full, BottomNode, BottomNil, TopNode, TopNil, TopLost}
 use Rattle.log.specs.Numbers.{what, same, bearsMoment}
 use Rattle.log.proofs.NumbersLaws.{same-true}
 use Rattle.rules.specs.Contents.{bears, before, applied, dropLast, dropFirst}
@@ -49,6 +49,7 @@ length-applied BottomNode v c = length-dropLast c
 length-applied BottomNil v c = refl
 length-applied TopNode v c = length-dropFirst c
 length-applied TopNil v c = refl
+length-applied TopLost v c = refl
 
 held-more : (w : What) (h : ℕ) → heldAfter w h ≤ h + 1
 held-more Pushed h = omega arith
@@ -57,6 +58,7 @@ held-more BottomNode h = omega arith
 held-more BottomNil h = omega arith
 held-more TopNode h = omega arith
 held-more TopNil h = omega arith
+held-more TopLost h = omega arith
 
 -- a call that leaves a node, of a queue that had none, is a push
 held-from : (w : What) (h : ℕ) → 0 < heldAfter w h → (same Pushed w && eqb h 0) ≡ false → 0 < h
@@ -66,6 +68,7 @@ held-from BottomNode h u e = omega arith
 held-from BottomNil h u e = u
 held-from TopNode h u e = omega arith
 held-from TopNil h u e = u
+held-from TopLost h u e = u
 
 -- how many nodes queue q holds, and since when it has held some
 pub record Shelf (f : ℕ → Entry) (n : ℕ) (keys : List ℕ) (k q held filled : ℕ) : Type 0 where

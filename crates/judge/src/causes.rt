@@ -31,7 +31,7 @@ fn held_after(did: What, held: usize) -> usize
             }
             held - 1
         }
-        What::Full | What::BottomNil | What::TopNil => held,
+        What::Full | What::BottomNil | What::TopNil | What::TopLost => held,
     }
 }
 

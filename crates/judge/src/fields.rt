@@ -2,7 +2,7 @@
 ghost use mathlib.Core.Path.{_≡_};
 ghost use mathlib.Core.Bool.{cond};
 ghost use Prim.Native.Nat.{_≤_};
-ghost use Rattle.log.specs.Numbers.{what as whatIs, same};
+ghost use Rattle.log.specs.Numbers.{what as whatIs, same, isTopNil};
 ghost use Rattle.log.specs.Decode.{entryAt};
 ghost use Rattle.rules.specs.Contents.{bears as bearsIs};
 ghost use Rattle.rules.specs.Rules.{keeps1};
@@ -27,14 +27,16 @@ fn keeps_fields(p: u8, e: Entry) -> bool
     let end = e.end;
     let push = kind == log::PUSH;
     let nil = result == log::NIL;
+    let lost = result == log::LOST;
     (process < p)
         & (queue < p)
         & ((log::PUSH <= kind) & (kind <= log::TOP_POP))
-        & (result <= log::FULL)
+        & (result <= log::MOST_RESULT)
         & (!(push | (kind == log::BOTTOM_POP)) | (process == queue))
         & (!(result == log::FULL) | push)
         & (!nil | !push)
-        & ((e.node == 0) == nil)
+        & (!lost | (kind == log::TOP_POP))
+        & ((e.node == 0) == (nil | lost))
         & (start <= end)
         & (end <= LAST_END)
 }
@@ -84,7 +86,7 @@ pub(crate) fn took_top(e: Entry) -> bool
 }
 
 pub(crate) fn top_nil(e: Entry) -> bool
-    ensures { λ r. ⌜ r ≡ same What.TopNil (whatIs e) ⌝ }
+    ensures { λ r. ⌜ r ≡ isTopNil (whatIs e) ⌝ }
 {
     !(e.kind == log::PUSH) & !(e.kind == log::BOTTOM_POP) & !(e.result == log::DONE)
 }

@@ -60,7 +60,7 @@ fn lawful(nodes: &[u16], lo: usize, hi: usize, did: What, node: u16, fresh: bool
             let top = nodes[lo];
             top == node
         }
-        What::Full | What::TopNil => true,
+        What::Full | What::TopNil | What::TopLost => true,
     }
 }
 
@@ -88,7 +88,7 @@ fn moved(lo: usize, hi: usize, did: What) -> Ends
             let next = lo + 1;
             Ends { lo: next, hi: hi }
         }
-        What::Full | What::BottomNil | What::TopNil => Ends { lo: lo, hi: hi },
+        What::Full | What::BottomNil | What::TopNil | What::TopLost => Ends { lo: lo, hi: hi },
     }
 }
 

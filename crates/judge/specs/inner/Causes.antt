@@ -6,7 +6,7 @@ use lib.Dec.{eqb, ltb, leb}
 use lib.ListN.{getD}
 use Rattle.log.specs.declared.Entry.{Entry}
 use Rattle.log.specs.declared.What.{What}
-use Rattle.log.specs.declared.What.the-variants.{Pushed, Full, BottomNode, BottomNil, TopNode, TopNil}
+use Rattle.log.specs.declared.What.the-variants.{Pushed, Full, BottomNode, BottomNil, TopNode, TopNil, TopLost}
 use Rattle.rules.specs.Search.{any}
 use Rattle.judge.specs.inner.Order.{Fields, Ordered}
 
@@ -18,6 +18,7 @@ heldAfter BottomNode h = h - 1
 heldAfter BottomNil h = h
 heldAfter TopNode h = h - 1
 heldAfter TopNil h = h
+heldAfter TopLost h = h
 
 -- a NIL top pop e has no cause: its queue holds a node, and has since its start, and no other process took one at the top since
 abbrev pub uncausedBy : List ℕ → List ℕ → List ℕ → Entry → Bool

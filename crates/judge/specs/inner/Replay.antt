@@ -3,7 +3,7 @@ use mathlib.Core.Bool.{cond}
 use Prim.Native.Nat.{ℕ, _+_, _-_}
 use lib.Dec.{leb}
 use Rattle.log.specs.declared.What.{What}
-use Rattle.log.specs.declared.What.the-variants.{Pushed, Full, BottomNode, BottomNil, TopNode, TopNil}
+use Rattle.log.specs.declared.What.the-variants.{Pushed, Full, BottomNode, BottomNil, TopNode, TopNil, TopLost}
 
 abbrev pub loAfter : What → ℕ → ℕ → ℕ
 loAfter Pushed lo hi = lo
@@ -12,6 +12,7 @@ loAfter BottomNode lo hi = lo
 loAfter BottomNil lo hi = lo
 loAfter TopNode lo hi = cond (leb hi lo) lo (lo + 1)
 loAfter TopNil lo hi = lo
+loAfter TopLost lo hi = lo
 
 abbrev pub hiAfter : What → ℕ → ℕ → ℕ
 hiAfter Pushed lo hi = hi + 1
@@ -20,3 +21,4 @@ hiAfter BottomNode lo hi = cond (leb hi lo) hi (hi - 1)
 hiAfter BottomNil lo hi = hi
 hiAfter TopNode lo hi = hi
 hiAfter TopNil lo hi = hi
+hiAfter TopLost lo hi = hi

@@ -21,7 +21,7 @@ returns-3 : tie.Need-returns-3
 returns-3 c = let a = c .before .before .args in took (λ w. a .held - 1 ≡ heldAfter w (a .held)) refl refl (a .did) (c .before .match .keys2)
 
 returns-4 : tie.Need-returns-4
-returns-4 c = let a = c .before .args in unaltered (λ w. a .held ≡ heldAfter w (a .held)) refl refl refl (a .did) (c .match .keys3)
+returns-4 c = let a = c .before .args in unaltered (λ w. a .held ≡ heldAfter w (a .held)) refl refl refl refl (a .did) (c .match .keys3)
 
 pub held-after-spec : {M : Type 1} → statement M
 held-after-spec =

@@ -29,7 +29,7 @@ returns-6 c = let a = c .before .before .before .before .args in rw (c .before .
     (content-first (a .nodes .now) (a .lo) (a .hi) (a .node) (c .before .if2 .left) (c .before .before .before .before .pre))
 
 returns-7 : tie.Need-returns-7
-returns-7 c = let a = c .before .args in momentless (λ w. true ≡ lawful (a .fresh) w (a .node) (slice (a .lo) (a .hi) (a .nodes .now))) refl refl
+returns-7 c = let a = c .before .args in momentless (λ w. true ≡ lawful (a .fresh) w (a .node) (slice (a .lo) (a .hi) (a .nodes .now))) refl refl refl
     (a .did) (c .match .keys5)
 
 pub lawful-spec : {M : Type 1} → statement M

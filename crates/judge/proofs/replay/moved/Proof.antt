@@ -36,6 +36,7 @@ returns-5 c = let a = c .before .before .before .args in (
 
 returns-6 : tie.Need-returns-6
 returns-6 c = let a = c .before .args in unaltered (λ w. (a .lo ≡ loAfter w (a .lo) (a .hi)) × (a .hi ≡ hiAfter w (a .lo) (a .hi))) (refl, refl)
+    (refl, refl)
     (refl, refl) (refl, refl) (a .did) (c .match .keys4)
 
 pub moved-spec : {M : Type 1} → statement M
