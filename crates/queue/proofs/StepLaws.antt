@@ -15,7 +15,7 @@ use Rattle.word.specs.declared.Word.{Word}
 use Rattle.word.specs.declared.Stage.{Stage}
 use Rattle.word.specs.declared.Stage.the-variants.{Idle, P1, P2, P3, T1, T2, T3, T4, B1, B2, B3, B4, B5, B6, B7}
 use Rattle.queue.specs.declared.Next.{Next}
-use Rattle.queue.specs.declared.Next.the-variants.{Going, Done, Node, Nil, Full, Refused}
+use Rattle.queue.specs.declared.Next.the-variants.{Going, Done, Node, Nil, Lost, Full, Refused}
 use Rattle.queue.specs.declared.Load.the-variants as load
 use Rattle.queue.specs.declared.Store.the-variants as store
 use Rattle.queue.specs.declared.Stepped.{Stepped}
@@ -120,6 +120,7 @@ Answered (Going s) = Unit {0}
 Answered Done = Unit {0}
 Answered (Node x) = Unit {0}
 Answered Nil = Unit {0}
+Answered Lost = Unit {0}
 Answered Full = Unit {0}
 Answered Refused = ⊥
 
@@ -182,7 +183,7 @@ stores-below W C w v (B6 b x t g) h = either-way (StoreIn C) (sameAge w t g) (λ
 stores-below W C w v (B7 b x t g) h = tt
 
 -- a comparison that fails alters nothing
-pub failed-T4 : (W C : ℕ) (w : Word) (v t g b x : ℕ) → sameAge w t g ≡ false → rowOf W C w v (T4 t g b x) ≡ leaves w Nil
+pub failed-T4 : (W C : ℕ) (w : Word) (v t g b x : ℕ) → sameAge w t g ≡ false → rowOf W C w v (T4 t g b x) ≡ leaves w Lost
 failed-T4 W C w v t g b x e = rw e
 
 pub failed-B6 : (W C : ℕ) (w : Word) (v b x t g : ℕ) → sameAge w t g ≡ false → rowOf W C w v (B6 b x t g) ≡ leaves w (Going (B7 b x t g))

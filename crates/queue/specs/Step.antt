@@ -13,7 +13,7 @@ use Rattle.word.specs.declared.Word.{Word}
 use Rattle.word.specs.declared.Stage.{Stage}
 use Rattle.word.specs.declared.Stage.the-variants.{Idle, P1, P2, P3, T1, T2, T3, T4, B1, B2, B3, B4, B5, B6, B7}
 use Rattle.queue.specs.declared.Next.{Next}
-use Rattle.queue.specs.declared.Next.the-variants.{Going, Done, Node, Nil, Full, Refused}
+use Rattle.queue.specs.declared.Next.the-variants.{Going, Done, Node, Nil, Lost, Full, Refused}
 use Rattle.queue.specs.declared.Load.{Load}
 use Rattle.queue.specs.declared.Load.the-variants as load
 use Rattle.queue.specs.declared.Store.{Store}
@@ -49,7 +49,7 @@ rowOf W C w v (P3 b) = leaves (bottomTo w (b + 1)) Done
 rowOf W C w v T1 = leaves w (Going (T2 (w .top) (w .tag)))
 rowOf W C w v (T2 t g) = cond (leb (w .bottom) t) (leaves w Nil) (leaves w (Going (T3 t g (w .bottom))))
 rowOf W C w v (T3 t g b) = leaves w (Going (T4 t g b v))
-rowOf W C w v (T4 t g b x) = cond (sameAge w t g) (leaves (ageTo w (t + 1) g) (Node x)) (leaves w Nil)
+rowOf W C w v (T4 t g b x) = cond (sameAge w t g) (leaves (ageTo w (t + 1) g) (Node x)) (leaves w Lost)
 rowOf W C w v B1 = cond (eqb (w .bottom) 0) (leaves w Nil) (leaves w (Going (B2 (w .bottom))))
 rowOf W C w v (B2 b) = leaves (bottomTo w (b - 1)) (Going (B3 b))
 rowOf W C w v (B3 b) = leaves w (Going (B4 b v))
@@ -79,15 +79,17 @@ stageAfter (Going s) = s
 stageAfter Done = Idle
 stageAfter (Node x) = Idle
 stageAfter Nil = Idle
+stageAfter Lost = Idle
 stageAfter Full = Idle
 stageAfter Refused = Idle
 
--- of a call that returned, its result and its node as in the log; done and FULL leave the node to the push
+-- of a call that returned, its result and its node as in the log: NIL at T4 is 3 (C-15); done and FULL leave the node to the push
 abbrev pub resultOf : Next → List ℕ
 resultOf (Going s) = []
 resultOf Done = 1 ∷ []
 resultOf (Node x) = 1 ∷ x ∷ []
 resultOf Nil = 0 ∷ 0 ∷ []
+resultOf Lost = 3 ∷ 0 ∷ []
 resultOf Full = 2 ∷ []
 resultOf Refused = []
 

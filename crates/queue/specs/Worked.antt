@@ -5,7 +5,7 @@ use Rattle.queue.specs.Step.{leaves, resets, rowOf, loadedSlot}
 use Rattle.queue.specs.declared.Load.the-variants as Load
 use Rattle.word.specs.declared.Word.{Word}
 use Rattle.word.specs.declared.Stage.the-variants.{P1, P2, T2, T3, T4, B3, B4, B5, B6, B7}
-use Rattle.queue.specs.declared.Next.the-variants.{Going, Node, Nil, Full}
+use Rattle.queue.specs.declared.Next.the-variants.{Going, Node, Nil, Lost, Full}
 
 abbrev word : ℕ → ℕ → ℕ → Word
 word b t g = record { bottom = b; top = t; tag = g }
@@ -14,13 +14,14 @@ word b t g = record { bottom = b; top = t; tag = g }
 full : (rowOf 8 4 (word 4 0 0) 0 (P1 7) ≡ leaves (word 4 0 0) Full) × (rowOf 8 4 (word 3 0 0) 0 (P1 7) ≡ leaves (word 3 0 0) (Going (P2 7 3)))
 full = (refl, refl)
 
--- NIL at T2 where b ≤ t
+-- NIL at T2 where b ≤ t, which is not NIL at T4 (C-15)
 nothing-there : (rowOf 8 4 (word 1 1 0) 0 (T2 1 0) ≡ leaves (word 1 1 0) Nil) × (rowOf 8 4 (word 2 1 0) 0 (T2 1 0) ≡ leaves (word 2 1 0) (Going (T3 1 0 2)))
 nothing-there = (refl, refl)
 
--- T4 compares top and tag
-both-compared : (rowOf 8 4 (word 1 0 5) 0 (T4 0 5 1 7) ≡ leaves (word 1 1 5) (Node 7)) × (rowOf 8 4 (word 1 0 6) 0 (T4 0 5 1 7) ≡ leaves (word 1 0 6) Nil)
-both-compared = (refl, refl)
+-- T4 compares top and tag; where one is another the race was lost
+both-compared : (rowOf 8 4 (word 1 0 5) 0 (T4 0 5 1 7) ≡ leaves (word 1 1 5) (Node 7)) × (rowOf 8 4 (word 1 0 6) 0 (T4 0 5 1 7) ≡ leaves (word 1 0 6) Lost)
+    × (rowOf 8 4 (word 1 1 5) 0 (T4 0 5 1 7) ≡ leaves (word 1 1 5) Lost)
+both-compared = (refl, refl, refl)
 
 -- the owner gets no node at B4 where b−1 = t
 last-node : (rowOf 8 4 (word 1 0 0) 0 (B4 2 7) ≡ leaves (word 1 0 0) (Node 7)) × (rowOf 8 4 (word 0 0 0) 0 (B4 1 7) ≡ leaves (word 0 0 0) (Going (B5 1 7 0 0)))

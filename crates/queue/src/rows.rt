@@ -109,7 +109,7 @@ fn t3(word: Word, x: u16, t: u16, g: u16, b: u16) -> Stepped
     leaves(word, Next::Going(Stage::T4 { t, g, b, x }))
 }
 
-// If age is still (t, g), age becomes (t+1, g); changed: return the node; else NIL.
+// If age is still (t, g), age becomes (t+1, g); changed: return the node; else NIL, told apart from that of T2.
 fn t4(word: Word, t: u16, g: u16, b: u16, x: u16) -> Stepped
     requires { ⌜ t < 64 ⌝ }
     ensures { λ r. ⌜ r ≡ rowOf 0 0 word 0 (Stage.T4 t g b x) ⌝ }
@@ -125,7 +125,7 @@ fn t4(word: Word, t: u16, g: u16, b: u16, x: u16) -> Stepped
             Next::Node(x),
         )
     } else {
-        leaves(word, Next::Nil)
+        leaves(word, Next::Lost)
     }
 }
 
