@@ -32,6 +32,7 @@ told s (next.Going z) h = record { number = refl; stage = refl }
 told s next.Done h = record { number = refl; stage = refl }
 told s (next.Node x) h = record { number = refl; stage = refl }
 told s next.Nil h = record { number = refl; stage = refl }
+told s next.Lost h = record { number = refl; stage = refl }
 told s next.Full h = record { number = refl; stage = refl }
 told s next.Refused h = absurd h
 
@@ -40,6 +41,7 @@ result-told s (next.Going z) = refl
 result-told s next.Done = refl
 result-told s (next.Node x) = refl
 result-told s next.Nil = refl
+result-told s next.Lost = refl
 result-told s next.Full = refl
 result-told s next.Refused = refl
 

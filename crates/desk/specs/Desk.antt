@@ -13,13 +13,14 @@ use Rattle.word.specs.declared.Stage.the-variants.{Idle}
 use Rattle.queue.specs.declared.Next.{Next}
 use Rattle.queue.specs.declared.Next.the-variants as next
 use Rattle.desk.specs.declared.Answer.{Answer}
-use Rattle.desk.specs.declared.Answer.the-variants.{Going, Done, Node, Nil, Full, Refused}
+use Rattle.desk.specs.declared.Answer.the-variants.{Going, Done, Node, Nil, Lost, Full, Refused}
 
 abbrev pub answerOf : Stage → Next → Answer
 answerOf s (next.Going z) = Going z
 answerOf s next.Done = Done
 answerOf s (next.Node x) = Node x
 answerOf s next.Nil = Nil
+answerOf s next.Lost = Lost
 answerOf s next.Full = Full
 answerOf s next.Refused = Refused s
 
@@ -29,6 +30,7 @@ numberOf (Going z) = 0
 numberOf Done = 0
 numberOf (Node x) = 0
 numberOf Nil = 0
+numberOf Lost = 0
 numberOf Full = 0
 numberOf (Refused s) = 10
 
@@ -38,15 +40,17 @@ stageOf (Going z) = z
 stageOf Done = Idle
 stageOf (Node x) = Idle
 stageOf Nil = Idle
+stageOf Lost = Idle
 stageOf Full = Idle
 stageOf (Refused s) = s
 
--- of a call that ended, its result and its node as in the log; FULL and done leave the node to the push
+-- of a call that ended, its result and its node as in the log: NIL at T4 is 3; FULL and done leave the node to the push
 abbrev pub resultOf : Answer → List ℕ
 resultOf (Going z) = []
 resultOf Done = 1 ∷ []
 resultOf (Node x) = 1 ∷ x ∷ []
 resultOf Nil = 0 ∷ 0 ∷ []
+resultOf Lost = 3 ∷ 0 ∷ []
 resultOf Full = 2 ∷ []
 resultOf (Refused s) = []
 

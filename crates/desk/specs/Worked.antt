@@ -8,7 +8,7 @@ use Rattle.word.specs.declared.Word.{Word}
 use Rattle.word.specs.declared.Stage.{Stage}
 use Rattle.word.specs.declared.Stage.the-variants.{Idle, P1, P2, P3, T1, T2, T3, T4, B1, B2, B3, B4, B5, B6, B7}
 use Rattle.desk.specs.declared.Answer.{Answer}
-use Rattle.desk.specs.declared.Answer.the-variants.{Going, Done, Node, Nil, Full, Refused}
+use Rattle.desk.specs.declared.Answer.the-variants.{Going, Done, Node, Nil, Lost, Full, Refused}
 
 abbrev word : ℕ → ℕ → ℕ → Word
 word b t g = record { bottom = b; top = t; tag = g }
@@ -52,9 +52,9 @@ K4-round : Gives 1 4 (word 0 0 0) (slots 1) (B6 1 1 0 0) (Node 1) (word 0 0 1) (
     × Gives 1 4 (word 1 0 0) (slots 3) (T4 0 0 1 1) (Node 1) (word 1 1 0) (slots 3)
 K4-round = ((refl, refl, refl), (refl, refl, refl), (refl, refl, refl))
 
--- K5: at W = 2 the tag is then 2, and the T4 has NIL
+-- K5: at W = 2 the tag is then 2, and the T4 has lost the race
 K5-not-round : Gives 2 4 (word 0 0 1) (slots 2) (B6 1 2 0 1) (Node 2) (word 0 0 2) (slots 2)
-    × Gives 2 4 (word 1 0 2) (slots 3) (T4 0 0 1 1) Nil (word 1 0 2) (slots 3)
+    × Gives 2 4 (word 1 0 2) (slots 3) (T4 0 0 1 1) Lost (word 1 0 2) (slots 3)
 K5-not-round = ((refl, refl, refl), (refl, refl, refl))
 
 -- K4 with no tag: each B6 finds (0, 0) and leaves (0, 0), and the T4 gets its node as at W = 1
@@ -62,6 +62,11 @@ K4-no-tag : Gives 0 4 (word 0 0 0) (slots 1) (B6 1 1 0 0) (Node 1) (word 0 0 0) 
     × Gives 0 4 (word 0 0 0) (slots 2) (B6 1 2 0 0) (Node 2) (word 0 0 0) (slots 2)
     × Gives 0 4 (word 1 0 0) (slots 3) (T4 0 0 1 1) (Node 1) (word 1 1 0) (slots 3)
 K4-no-tag = ((refl, refl, refl), (refl, refl, refl), (refl, refl, refl))
+
+-- K2: the owner has the last node, and the T4 has lost the race; a T2 that finds nothing has NIL
+K2-lost : Gives 8 4 (word 0 0 1) (slots 7) (T4 0 0 1 7) Lost (word 0 0 1) (slots 7)
+    × Gives 8 4 (word 0 0 1) (slots 7) (T2 0 1) Nil (word 0 0 1) (slots 7)
+K2-lost = ((refl, refl, refl), (refl, refl, refl))
 
 -- K6: FULL at C = 1; a node of any 16-bit value; an idle stage
 edges : Gives 8 1 (word 1 0 0) (5 ∷ []) (P1 6) Full (word 1 0 0) (5 ∷ [])
@@ -73,8 +78,8 @@ edges = ((refl, refl, refl), (refl, refl, refl), (refl, refl, refl), (refl, refl
 -- the paper's numbers and values for an answer of each kind
 numbered : (numberOf (Node 7) ≡ 0) × (numberOf (Refused T1) ≡ 10)
     × (stageOf (Going (P3 0)) ≡ P3 0) × (stageOf (Node 7) ≡ Idle) × (stageOf (Refused (B2 0)) ≡ B2 0)
-    × (resultOf (Node 7) ≡ 1 ∷ 7 ∷ []) × (resultOf Nil ≡ 0 ∷ 0 ∷ []) × (resultOf Full ≡ 2 ∷ []) × (resultOf Done ≡ 1 ∷ [])
-numbered = (refl, refl, refl, refl, refl, refl, refl, refl, refl)
+    × (resultOf (Node 7) ≡ 1 ∷ 7 ∷ []) × (resultOf Nil ≡ 0 ∷ 0 ∷ []) × (resultOf Lost ≡ 3 ∷ 0 ∷ []) × (resultOf Full ≡ 2 ∷ []) × (resultOf Done ≡ 1 ∷ [])
+numbered = (refl, refl, refl, refl, refl, refl, refl, refl, refl, refl)
 
 -- the desk refuses, and alters nothing
 abbrev Refusal : ℕ → ℕ → Word → List ℕ → Stage → Type 0

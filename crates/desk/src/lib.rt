@@ -6,12 +6,13 @@ use queue::step_on;
 use word::Stage;
 use word::Word;
 
-// What the desk gives back: the next stage, or the result of the call. Refused: nothing was done, and the stage is given back as lent.
+// What the desk gives back: the next stage, or the result of the call. Lost: NIL at T4. Refused: nothing was done, and the stage is given back as lent.
 pub enum Answer {
     Going(Stage),
     Done,
     Node(u16),
     Nil,
+    Lost,
     Full,
     Refused(Stage),
 }
@@ -30,6 +31,7 @@ fn answer_of(stage: Stage, next: Next) -> Answer
         Next::Done => Answer::Done,
         Next::Node(x) => Answer::Node(x),
         Next::Nil => Answer::Nil,
+        Next::Lost => Answer::Lost,
         Next::Full => Answer::Full,
         Next::Refused => Answer::Refused(stage),
     }

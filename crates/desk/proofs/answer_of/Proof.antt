@@ -9,8 +9,8 @@ returns c = rw (c .before .next .given .1)
 returns-3 : tie.Need-returns-3
 returns-3 c = rw (c .before .next2 .given .1)
 
-returns-6 : tie.Need-returns-6
-returns-6 c = rw (c .enum-told4 .given .1)
+returns-7 : tie.Need-returns-7
+returns-7 c = rw (c .enum-told5 .given .1)
 
 pub answer-of-spec : {M : Type 1} → statement M
 answer-of-spec =
@@ -22,9 +22,11 @@ answer-of-spec =
     (λ c. search needs)
     (λ c. search needs)
     (λ c. search needs)
+    (λ c. search needs)
     returns
     (λ c. search needs)
     returns-3
     (λ c. search needs)
     (λ c. search needs)
-    returns-6)
+    (λ c. search needs)
+    returns-7)
