@@ -18,7 +18,7 @@ use Rattle.range.specs.Range.{inRange}
 use Rattle.word.specs.Stages.{rowNumber, isIdle}
 use Rattle.queue.specs.Step.{sameAge, rowOf, loaded, loadedSlot, stageAfter}
 use Rattle.queue.specs.declared.Next.{Next}
-use Rattle.queue.specs.declared.Next.the-variants.{Going, Done, Node, Nil, Full, Refused}
+use Rattle.queue.specs.declared.Next.the-variants.{Going, Done, Node, Nil, Lost, Full, Refused}
 use Rattle.word.specs.declared.Stage.{Stage}
 use Rattle.word.specs.declared.Stage.the-variants.{Idle, P1, P2, P3, T1, T2, T3, T4, B1, B2, B3, B4, B5, B6, B7}
 use Rattle.queue.specs.declared.Stepped.{Stepped}
@@ -60,6 +60,7 @@ ended-by p n r owner t (Going z) = tt
 ended-by p n r owner t Done = refl
 ended-by p n r owner t (Node x) = either-way (λ (e : Entry). e .process ≡ p) (isTake (r .call)) (λ e. refl) (λ e. refl)
 ended-by p n r owner t Nil = either-way (λ (e : Entry). e .process ≡ p) (isTake (r .call)) (λ e. refl) (λ e. refl)
+ended-by p n r owner t Lost = refl
 ended-by p n r owner t Full = refl
 ended-by p n r owner t Refused = tt
 
@@ -86,6 +87,7 @@ Keeps k (Going z) = kindAt z ≡ k
 Keeps k Done = k ≡ push
 Keeps k (Node x) = bottomPop ≤ k
 Keeps k Nil = bottomPop ≤ k
+Keeps k Lost = k ≡ topPop
 Keeps k Full = k ≡ push
 Keeps k Refused = Unit {0}
 
@@ -100,7 +102,7 @@ row-keeps W C w v (P3 b) = refl
 row-keeps W C w v T1 = refl
 row-keeps W C w v (T2 t g) = either-way (KeptBy topPop) (leb (w .bottom) t) (λ e. omega arith) (λ e. refl)
 row-keeps W C w v (T3 t g b) = refl
-row-keeps W C w v (T4 t g b x) = either-way (KeptBy topPop) (sameAge w t g) (λ e. omega arith) (λ e. omega arith)
+row-keeps W C w v (T4 t g b x) = either-way (KeptBy topPop) (sameAge w t g) (λ e. omega arith) (λ e. refl)
 row-keeps W C w v B1 = either-way (KeptBy bottomPop) (eqb (w .bottom) 0) (λ e. omega arith) (λ e. refl)
 row-keeps W C w v (B2 b) = refl
 row-keeps W C w v (B3 b) = refl
@@ -128,6 +130,11 @@ take-call p (Push node) e = absurd (false≢true e)
 take-call p Pop e = absurd (false≢true e)
 take-call p (Take q) e = refl
 
+lost-call : (p : ℕ) (c : Call) → kindCalled c ≡ topPop → Take (queueOf p c) ≡ c
+lost-call p (Push node) h = absurd (omega arith)
+lost-call p Pop h = absurd (omega arith)
+lost-call p (Take q) h = refl
+
 pop-call : (c : Call) → isTake c ≡ false → bottomPop ≤ kindCalled c → Pop ≡ c
 pop-call (Push node) e h = absurd (omega arith)
 pop-call Pop e h = refl
@@ -150,6 +157,7 @@ next-kind k (Going z) h e = h
 next-kind k Done h e = absurd (true≢false e)
 next-kind k (Node x) h e = absurd (true≢false e)
 next-kind k Nil h e = absurd (true≢false e)
+next-kind k Lost h e = absurd (true≢false e)
 next-kind k Full h e = absurd (true≢false e)
 next-kind k Refused h e = absurd (true≢false e)
 
@@ -173,6 +181,7 @@ told-once p n r owner t (Node x) k busy e =
     either-way (Told (r .call)) (isTake (r .call)) (λ d. alone (take-call p (r .call) d)) (λ d. alone (pop-call (r .call) d k))
 told-once p n r owner t Nil k busy e =
     either-way (Told (r .call)) (isTake (r .call)) (λ d. alone (take-call p (r .call) d)) (λ d. alone (pop-call (r .call) d k))
+told-once p n r owner t Lost k busy e = alone (lost-call p (r .call) k)
 told-once p n r owner t Full k busy e = alone (push-call (r .call) k)
 told-once p n r owner t Refused k busy e = absurd (true≢false e)
 

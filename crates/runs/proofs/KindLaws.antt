@@ -165,6 +165,7 @@ Gives s (next.Going z) = Unit {0}
 Gives s next.Done = isPush s ≡ true
 Gives s (next.Node x) = Unit {0}
 Gives s next.Nil = Unit {0}
+Gives s next.Lost = Unit {0}
 Gives s next.Full = isPush s ≡ true
 Gives s next.Refused = Unit {0}
 

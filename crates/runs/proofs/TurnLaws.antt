@@ -12,7 +12,7 @@ use lib.Seq.{getD-set-same, getD-set-other, set-out}
 use Rattle.base.proofs.Cases.{either-way}
 use Rattle.word.specs.Stages.{isIdle, atB2}
 use Rattle.queue.specs.declared.Next.{Next}
-use Rattle.queue.specs.declared.Next.the-variants.{Going, Done, Node, Nil, Full, Refused}
+use Rattle.queue.specs.declared.Next.the-variants.{Going, Done, Node, Nil, Lost, Full, Refused}
 use Rattle.queue.specs.declared.Stepped.{Stepped}
 use Rattle.base.specs.Bytes.{byteAt, numberAt}
 use Rattle.base.proofs.Lists.{listOf-length, listOf-getD}
@@ -35,6 +35,7 @@ gone-most r resets (Going s) = omega arith
 gone-most r resets Done = omega arith
 gone-most r resets (Node x) = either-way (λ (n : ℕ). n ≤ 1) (isTake (r .call) && not (eqb (r .resetsAtT1) resets)) (λ e. omega arith) (λ e. omega arith)
 gone-most r resets Nil = omega arith
+gone-most r resets Lost = omega arith
 gone-most r resets Full = omega arith
 gone-most r resets Refused = omega arith
 

@@ -8,7 +8,7 @@ use Rattle.log.specs.declared.What.{What}
 use Rattle.log.specs.declared.What.the-variants as what
 use Rattle.word.specs.Stages.{pastB2, popsSlot}
 use Rattle.queue.specs.declared.Next.{Next}
-use Rattle.queue.specs.declared.Next.the-variants.{Going, Done, Node, Nil, Full, Refused}
+use Rattle.queue.specs.declared.Next.the-variants.{Going, Done, Node, Nil, Lost, Full, Refused}
 use Rattle.runfile.specs.declared.Call.{Call}
 use Rattle.runfile.specs.declared.Call.the-variants.{Push, Pop, Take}
 use Rattle.runs.specs.State.{Process}
@@ -69,6 +69,7 @@ ended p n r owner t (Going s) = Nothing
 ended p n r owner t Done = ends (entry p n r what.Pushed (pushedNode (r .call)) (2 * n))
 ended p n r owner t (Node x) = ends (nodeEntry p n r owner t x)
 ended p n r owner t Nil = ends (nilEntry p n r)
+ended p n r owner t Lost = ends (entry p n r what.TopLost 0 noMoment)
 ended p n r owner t Full = ends (entry p n r what.Full (pushedNode (r .call)) noMoment)
 ended p n r owner t Refused = Nothing
 
@@ -78,5 +79,6 @@ goneRound r resets (Going s) = 0
 goneRound r resets Done = 0
 goneRound r resets (Node x) = cond (isTake (r .call) && not (eqb (r .resetsAtT1) resets)) 1 0
 goneRound r resets Nil = 0
+goneRound r resets Lost = 0
 goneRound r resets Full = 0
 goneRound r resets Refused = 0

@@ -8,7 +8,7 @@ use Rattle.log.specs.declared.Entry.{Entry}
 use Rattle.word.specs.Stages.{isIdle, atT1, atB2}
 use Rattle.queue.specs.Step.{stored, steppedOn, stageAfter}
 use Rattle.queue.specs.declared.Next.{Next}
-use Rattle.queue.specs.declared.Next.the-variants.{Going, Done, Node, Nil, Full, Refused}
+use Rattle.queue.specs.declared.Next.the-variants.{Going, Done, Node, Nil, Lost, Full, Refused}
 use Rattle.word.specs.declared.Stage.{Stage}
 use Rattle.word.specs.declared.Stage.the-variants.{P1, T1, B1}
 use Rattle.queue.specs.declared.Stepped.{Stepped}
@@ -58,6 +58,7 @@ isRefused (Going s) = false
 isRefused Done = false
 isRefused (Node x) = false
 isRefused Nil = false
+isRefused Lost = false
 isRefused Full = false
 isRefused Refused = true
 
