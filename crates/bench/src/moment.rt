@@ -122,6 +122,7 @@ pub(crate) fn ended(p: u8, n: u16, of: Process, owner: Process, t: u16, next: Ne
         Next::Done => Ended::Call(entry(p, n, of, What::Pushed, node, 2 * n)),
         Next::Node(x) => Ended::Call(node_entry(p, n, of, owner, t, x)),
         Next::Nil => Ended::Call(nil_entry(p, n, of)),
+        Next::Lost => Ended::Call(entry(p, n, of, What::TopLost, 0, log::NO_MOMENT)),
         Next::Full => Ended::Call(entry(p, n, of, What::Full, node, log::NO_MOMENT)),
         Next::Refused => Ended::Nothing,
     }
@@ -143,6 +144,7 @@ pub(crate) fn gone_round(of: Process, resets: u16, next: Next) -> u16
             }
         }
         Next::Nil => 0,
+        Next::Lost => 0,
         Next::Full => 0,
         Next::Refused => 0,
     }

@@ -52,6 +52,7 @@ fn stage_after(next: Next) -> Stage
         Next::Done => Stage::Idle,
         Next::Node(_) => Stage::Idle,
         Next::Nil => Stage::Idle,
+        Next::Lost => Stage::Idle,
         Next::Full => Stage::Idle,
         Next::Refused => Stage::Idle,
     }
@@ -65,6 +66,7 @@ fn is_refused(next: Next) -> bool
         Next::Done => false,
         Next::Node(_) => false,
         Next::Nil => false,
+        Next::Lost => false,
         Next::Full => false,
         Next::Refused => true,
     }

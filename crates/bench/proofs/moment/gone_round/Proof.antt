@@ -22,8 +22,10 @@ gone-round-spec =
     (λ c. search needs)
     (λ c. search needs)
     (λ c. search needs)
+    (λ c. search needs)
     returns-3
     returns-4
+    (λ c. search needs)
     (λ c. search needs)
     (λ c. search needs)
     (λ c. search needs))
