@@ -13,7 +13,7 @@ use lib.Seq.{slice}
 use Rattle.log.specs.Numbers.{what}
 use Rattle.log.specs.declared.Entry.{Entry}
 use Rattle.log.specs.declared.What.{What}
-use Rattle.log.specs.declared.What.the-variants.{Pushed, Full, BottomNode, BottomNil, TopNode, TopNil}
+use Rattle.log.specs.declared.What.the-variants.{Pushed, Full, BottomNode, BottomNil, TopNode, TopNil, TopLost}
 use Rattle.word.specs.Stages.{pastB2}
 use Rattle.word.specs.declared.Stage.{Stage}
 use Rattle.word.specs.declared.Stage.the-variants.{Idle, P1, P2, P3, T1, T2, T3, T4, B1, B2, B3, B4, B5, B6, B7}
@@ -85,6 +85,7 @@ Right l K e BottomNode = BottomIs (e .node) (K (e .moment))
 Right l K e BottomNil = K (e .moment) ≡ []
 Right l K e TopNode = TopIs (e .node) (K (e .moment))
 Right l K e TopNil = Cause l K (e .process) (e .queue) (e .start) (2 * e .end + 2)
+Right l K e TopLost = Cause l K (e .process) (e .queue) (e .start) (2 * e .end + 2)
 
 pub record Fine (n : ℕ) (l : List Entry) (K : ℕ → List ℕ) (e : Entry) : Type 0 where
   pub order : e .start ≤ e .end

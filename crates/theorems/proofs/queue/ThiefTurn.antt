@@ -11,9 +11,10 @@ use lib.Dec.{eqb}
 use lib.ListN.{getD}
 use lib.Seq.{slice, slice-cons}
 use borrow.Author.Tests.{eq-eqb, ne-eqb, lt-ltb, le-ltb, eqb-true, eqb-false}
-use Rattle.log.specs.Numbers.{noMoment}
+use Rattle.log.specs.Numbers.{noMoment, kindOf, resultOf, bearsMoment, whatOf, isTopNil}
 use Rattle.log.specs.declared.Entry.{Entry}
-use Rattle.log.specs.declared.What.the-variants.{Pushed, TopNode, TopNil}
+use Rattle.log.specs.declared.What.{What}
+use Rattle.log.specs.declared.What.the-variants.{Pushed, TopNode, TopNil, TopLost}
 use Rattle.word.specs.Stages.{pastB2, firstLoaded, popsSlot, atT1}
 use Rattle.queue.specs.Step.{ageTo, stageAfter}
 use Rattle.word.specs.declared.Stage.{Stage}
@@ -22,15 +23,15 @@ use Rattle.queue.specs.declared.Stepped.{Stepped}
 use Rattle.runfile.specs.declared.Call.{Call}
 use Rattle.runs.specs.State.{Process}
 use Rattle.runs.specs.Moment.{queueOf, isTake, entry, takeMoment, ended, goneRound}
-use Rattle.rules.specs.Contents.{dropFirst}
+use Rattle.rules.specs.Contents.{bears, dropFirst, applied}
 use Rattle.base.proofs.Cases.{never, ever, if-le}
-use Rattle.theorems.proofs.queue.Cases.{if-age}
+use Rattle.theorems.proofs.queue.Cases.{if-age, top-nil}
 use Rattle.runs.proofs.KindLaws.{isTop}
 use Rattle.base.proofs.Lists.{in-last, in-snoc}
 use Rattle.theorems.proofs.queue.Lists.{slice-none}
 use Rattle.theorems.proofs.queue.Content.{isAt, turn, content, content-suc, add-none, add-past, swap}
 use Rattle.theorems.proofs.queue.Memory.{Memory, rowIn, memoryAfter, withTop, lim, until, lim-past, logAfter}
-use Rattle.theorems.proofs.queue.Inv.{Control, QueueOk, Cause, Calm, still, void, took, old, same, more, Turn, view, pending, AtTop, Seen, Reach, Why, hit, age}
+use Rattle.theorems.proofs.queue.Inv.{Control, QueueOk, Cause, Right, Calm, still, void, took, old, same, more, Turn, view, pending, AtTop, Seen, Reach, Why, hit, age}
 use Rattle.theorems.proofs.queue.Keeps.{cause-keeps, cause-now}
 use Rattle.theorems.proofs.queue.OwnerTurn.{Old, free-snoc, held-keep, event-on, new-entry}
 
@@ -108,6 +109,9 @@ calm-refl m s = record { mono = omega arith; up = omega arith; tag = λ e. refl;
 nil-not : TopNil ≡ Pushed → ⊥
 nil-not e = let z : _≡_ {A = ℕ} 0 1 = cc in omega arith
 
+lost-not : TopLost ≡ Pushed → ⊥
+lost-not e = let z : _≡_ {A = ℕ} 0 1 = cc in omega arith
+
 node-not : TopNode ≡ Pushed → ⊥
 node-not e = let z : _≡_ {A = ℕ} 0 1 = cc in omega arith
 
@@ -159,24 +163,29 @@ module _ (W C n p : ℕ) (call : Call) (place stop f back seen : ℕ) (owner : P
         self = v;
       }
 
-  -- NIL
-  nil-step : (j : ℕ) (z : Stage) → Cause l (view q l m s k) p q f (2 * n)
-      → TurnT C n p q f call nd′ j l m s k (l ++ (entry p n (at z) TopNil 0 noMoment ∷ [])) m Idle
-  nil-step j z w =
-      let e : Entry = entry p n (at z) TopNil 0 noMoment in
-      let kp : (x : ℕ) → content (l ++ (e ∷ [])) q (pending m s k) x ≡ view q l m s k x = add-none l e q (pending m s k) (λ c. refl) in
+  -- NIL, at T2 or at T4
+  nil-step : (did : What) → isTopNil did ≡ true → (j : ℕ) (z : Stage) → Cause l (view q l m s k) p q f (2 * n)
+      → TurnT C n p q f call nd′ j l m s k (l ++ (entry p n (at z) did 0 noMoment ∷ [])) m Idle
+  nil-step did nil j z w =
+      let e : Entry = entry p n (at z) did 0 noMoment in
+      let silent : bears e ≡ false = top-nil (λ (a : What). bearsMoment (whatOf (kindOf a) (resultOf a)) ≡ false) refl refl did nil in
+      let kp : (x : ℕ) → content (l ++ (e ∷ [])) q (pending m s k) x ≡ view q l m s k x = add-none l e q (pending m s k)
+      (λ c. top-nil (λ (a : What). applied (whatOf (kindOf a) (resultOf a)) 0 c ≡ c) refl refl did nil) in
+      let cause = cause-keeps l (view q l m s k) (l ++ (e ∷ [])) (view q (l ++ (e ∷ [])) m s k) p q f (2 * n) (2 * n + 2)
+      (λ d i. in-snoc l e d i) (λ x g. kp x) (omega arith) w in
       record {
         turn = record {
           own = record {
             ctl = h .ctl;
             now-on = λ x g. kp x ∙ h .now-on x (omega arith);
             held = λ d. held-keep n l m s k (view q l m s k) (l ++ (e ∷ [])) m s (view q (l ++ (e ∷ [])) m s k) (λ x g. kp x) refl refl (λ g. g) (λ g. g)
-                (λ d g. free-snoc l e (2 * k) g (λ u. never u)) (λ d g. free-snoc l e (suc (2 * k)) g (λ u. never u)) (h .held d);
+                (λ d g. free-snoc l e (2 * k) g (λ u. never (sym silent ∙ u))) (λ d g. free-snoc l e (suc (2 * k)) g (λ u. never (sym silent ∙ u))) (h .held d);
           };
           rely = record { calm = calm-refl m s; change = still refl refl; edge = λ e d g y. old g y refl (h .held g .late) refl; kept = λ x g. kp x };
-          grow = more e (new-entry (at z) TopNil 0 noMoment f-le
-              (λ d. never d) (λ d. never d) (cause-keeps l (view q l m s k) (l ++ (e ∷ [])) (view q (l ++ (e ∷ [])) m s k) p q f (2 * n) (2 * n + 2)
-              (λ d i. in-snoc l e d i) (λ x g. kp x) (omega arith) w) (λ d. never d) (λ d. never d) (λ d. absurd (nil-not d)));
+          grow = more e (new-entry (at z) did 0 noMoment f-le (λ d. never (sym silent ∙ d)) (λ d. never (sym silent ∙ d))
+              (top-nil (λ (a : What). Right (l ++ (e ∷ [])) (view q (l ++ (e ∷ [])) m s k) e (whatOf (kindOf a) (resultOf a))) cause cause did nil)
+              (λ d. never (sym silent ∙ d)) (λ d. never (sym silent ∙ d))
+              (λ d. absurd (top-nil (λ (a : What). whatOf (kindOf a) (resultOf a) ≡ Pushed → ⊥) nil-not lost-not did nil d)));
         };
         self = tt;
       }
@@ -325,7 +334,7 @@ module _ (W C n p : ℕ) (call : Call) (place stop f back seen : ℕ) (owner : P
       (record { since = omega arith; seen-le = omega arith; tag = λ e. refl; top = λ e. omega arith; why = age refl refl })
   thief-turn (T2 t g) i v =
       if-le (P (T2 t g)) (m .word .bottom) t
-      (λ e u. rw take (nil-step seen (T2 t g) (why-T2 seen t (v .since) e (v .why))))
+      (λ e u. rw take (nil-step TopNil refl seen (T2 t g) (why-T2 seen t (v .since) e (v .why))))
       (λ e u.
       let b = bd in
       let ct = h .ctl in
@@ -347,7 +356,7 @@ module _ (W C n p : ℕ) (call : Call) (place stop f back seen : ℕ) (owner : P
       (cond (popsSlot s (m .word .top)) (2 * k) (2 * n)) ∷ []))
       (record { word = ageTo (m .word) (t + 1) a; resets = m .resets; slots = m .slots }) Idle) c
       (win seen t x (T4 t g b x) e je (v .1) (v .2 je) (pastB2 s) refl (eqb (firstLoaded s - 1) (m .word .top)) refl)))
-      (λ c u. rw take (nil-step seen (T4 t g b x) (why-T4 seen t (λ a w. c w (v .0 .tag a)) (v .0 .why))))
+      (λ c u. nil-step TopLost refl seen (T4 t g b x) (why-T4 seen t (λ a w. c w (v .0 .tag a)) (v .0 .why)))
   thief-turn B1 i v = never i
   thief-turn (B2 b) i v = never i
   thief-turn (B3 b) i v = never i

@@ -11,7 +11,7 @@ use borrow.Author.Tests.{leb-true, lt-ltb, eq-eqb, ne-eqb}
 use Rattle.log.specs.Numbers.{noMoment}
 use Rattle.log.specs.declared.Entry.{Entry}
 use Rattle.log.specs.declared.What.{What}
-use Rattle.log.specs.declared.What.the-variants.{Pushed, Full, BottomNode, BottomNil, TopNode, TopNil}
+use Rattle.log.specs.declared.What.the-variants.{Pushed, Full, BottomNode, BottomNil, TopNode, TopNil, TopLost}
 use Rattle.word.specs.Stages.{rowNumber, isIdle, atB2, pastB2, popsSlot}
 use Rattle.queue.specs.Step.{loadedSlot, loaded, stageAfter}
 use Rattle.queue.specs.declared.Next.{Next}
@@ -180,6 +180,7 @@ module _ (f : Sizes) (w : Fit f) (s : State) (v : Sound f s) (h : Inv f s) (p : 
       kept next.Done e = ever e
       kept (next.Node x) e = ever e
       kept next.Nil e = ever e
+      kept next.Lost e = ever e
       kept next.Full e = ever e
       kept next.Refused e = ever e
 
@@ -205,6 +206,7 @@ module _ (f : Sizes) (w : Fit f) (s : State) (v : Sound f s) (h : Inv f s) (p : 
   written-after (next.Node x) g =
       all-snoc _ (s .log) _ (h .written) (node-written (processAt (s .bench) q) (queueAt (s .bench) q .word .top) x (isTake (r .call)) refl)
   written-after next.Nil g = all-snoc _ (s .log) _ (h .written) (nil-written (isTake (r .call)) refl)
+  written-after next.Lost g = all-snoc _ (s .log) _ (h .written) (wrote TopLost 0 noMoment (refl, refl))
   written-after next.Full g = all-snoc _ (s .log) _ (h .written) (wrote Full (pushedNode (r .call)) noMoment (push-owns g, refl))
   written-after next.Refused g = h .written
 

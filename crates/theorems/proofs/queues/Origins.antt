@@ -10,7 +10,7 @@ use lib.ListN.{length, getD, take, List·getD-eq-default}
 use Rattle.log.specs.Numbers.{what, noMoment}
 use Rattle.log.specs.declared.Entry.{Entry}
 use Rattle.log.specs.declared.What.{What}
-use Rattle.log.specs.declared.What.the-variants.{Pushed, Full, BottomNode, BottomNil, TopNode, TopNil}
+use Rattle.log.specs.declared.What.the-variants.{Pushed, Full, BottomNode, BottomNil, TopNode, TopNil, TopLost}
 use Rattle.word.specs.Stages.{isIdle}
 use Rattle.base.proofs.Cases.{either-way, if-set}
 use Rattle.queue.specs.Step.{stageAfter, loadedSlot, loaded}
@@ -100,6 +100,10 @@ nil-other p n r true (inr e) = let z : _≡_ {A = ℕ} 0 1 = cc in omega arith
 nil-other p n r false (inl e) = let z : _≡_ {A = ℕ} 0 1 = cc in omega arith
 nil-other p n r false (inr e) = let z : _≡_ {A = ℕ} 0 1 = cc in omega arith
 
+lost-other : Pushes TopLost → ⊥
+lost-other (inl e) = let z : _≡_ {A = ℕ} 0 1 = cc in omega arith
+lost-other (inr e) = let z : _≡_ {A = ℕ} 0 1 = cc in omega arith
+
 module _ (f : RunFile) (w : InRanges f) (s : State) (v : Sound (sizesOf f) s) (i : Origins f s) (p : ℕ) (r : Process) (k : Steps (sizesOf f) s p r)
     (c : Scripted f p r) where
   abbrev n : ℕ
@@ -182,6 +186,7 @@ module _ (f : RunFile) (w : InRanges f) (s : State) (v : Sound (sizesOf f) s) (i
       let u = node-other p n r (processAt (s .bench) (queueOf p (r .call))) (queueAt (s .bench) (queueOf p (r .call)) .word .top) x (isTake (r .call)) in
       with-new _ (λ y. absurd (u y)) (no-pushed (nodeEntry p n r (processAt (s .bench) (queueOf p (r .call))) (queueAt (s .bench) (queueOf p (r .call)) .word .top) x) u)
   logged next.Nil d g = let u = nil-other p n r (isTake (r .call)) in with-new _ (λ y. absurd (u y)) (no-pushed (nilEntry p n r) u)
+  logged next.Lost d g = with-new _ (λ y. absurd (lost-other y)) (no-pushed (entry p n r TopLost 0 noMoment) lost-other)
   logged next.Full d g =
       with-new _ (λ _. new (entry p n r Full (pushedNode (r .call)) noMoment) refl (push-is g) (ap stageAfter d))
       (apart (entry p n r Full (pushedNode (r .call)) noMoment) refl (push-is g) (ap stageAfter d))

@@ -10,7 +10,7 @@ use native.Mathlib.Omega.{arith}
 use Rattle.log.specs.Numbers.{kindOf, resultOf, bearsMoment, noMoment, what}
 use Rattle.log.specs.declared.Entry.{Entry}
 use Rattle.log.specs.declared.What.{What}
-use Rattle.log.specs.declared.What.the-variants.{Pushed, Full, BottomNode, BottomNil, TopNode, TopNil}
+use Rattle.log.specs.declared.What.the-variants.{Pushed, Full, BottomNode, BottomNil, TopNode, TopNil, TopLost}
 use Rattle.word.specs.Stages.{isIdle, pastB2}
 use Rattle.word.specs.declared.Stage.{Stage}
 use Rattle.runfile.specs.declared.Call.{Call}
@@ -23,7 +23,7 @@ use Rattle.base.specs.Lists.{In, All, Pairs}
 use Rattle.base.proofs.Lists.{all-map, in-snoc}
 use Rattle.theorems.proofs.queue.Content.{Free, content, add-other}
 use Rattle.theorems.proofs.queue.Memory.{Memory, memoryAt, asOwner}
-use Rattle.theorems.proofs.queue.Inv.{QueueOk, Fine, Right, Grow, same, more, view, AtTop}
+use Rattle.theorems.proofs.queue.Inv.{QueueOk, Cause, Fine, Right, Grow, same, more, view, AtTop}
 use Rattle.theorems.proofs.queue.Keeps.{cause-keeps}
 use Rattle.theorems.proofs.queue.OwnerTurn.{Old, free-snoc}
 
@@ -68,6 +68,7 @@ Fields BottomNode e = e .queue ≡ e .process
 Fields BottomNil e = (e .queue ≡ e .process) × (e .node ≡ 0)
 Fields TopNode e = Unit {0}
 Fields TopNil e = (e .node ≡ 0) × (e .moment ≡ noMoment)
+Fields TopLost e = (e .node ≡ 0) × (e .moment ≡ noMoment)
 
 pub record Written (P : ℕ) (e : Entry) : Type 0 where
   pub process : e .process < P
@@ -95,6 +96,12 @@ old-log f s h x i = all-map _ _ (λ e g b d. no-late e g b d) (s .log) (h .fine)
         → e .moment ≡ x → ⊥
     no-late e g b d = omega (arith, g .to b, g .ended)
 
+nil-keeps : (l : List Entry) (K : ℕ → List ℕ) (l′ : List Entry) (K′ : ℕ → List ℕ) (n : ℕ) (e : Entry) → e .end < n → ((d : Entry) → In d l → In d l′)
+    → ((x : ℕ) → x ≤ 2 * n → K′ x ≡ K x) → Cause l K (e .process) (e .queue) (e .start) (2 * e .end + 2)
+    → Cause l′ K′ (e .process) (e .queue) (e .start) (2 * e .end + 2)
+nil-keeps l K l′ K′ n e en i k h =
+    cause-keeps l K l′ K′ (e .process) (e .queue) (e .start) (2 * e .end + 2) (2 * e .end + 2) i (λ x g. k x (omega arith)) (omega arith) h
+
 right-keeps : (l : List Entry) (K : ℕ → List ℕ) (l′ : List Entry) (K′ : ℕ → List ℕ) (n : ℕ) (e : Entry) → e .end < n → ((d : Entry) → In d l → In d l′)
     → ((x : ℕ) → x ≤ 2 * n → K′ x ≡ K x) → (w : What) → (bearsMoment w ≡ true → e .moment ≤ 2 * n) → Right l K e w → Right l′ K′ e w
 right-keeps l K l′ K′ n e en i k Pushed b h = tt
@@ -102,8 +109,8 @@ right-keeps l K l′ K′ n e en i k Full b h = tt
 right-keeps l K l′ K′ n e en i k BottomNode b h = (h .0, k (e .moment) (b refl) ∙ h .1)
 right-keeps l K l′ K′ n e en i k BottomNil b h = k (e .moment) (b refl) ∙ h
 right-keeps l K l′ K′ n e en i k TopNode b h = (h .0, k (e .moment) (b refl) ∙ h .1)
-right-keeps l K l′ K′ n e en i k TopNil b h = cause-keeps l K l′ K′ (e .process) (e .queue) (e .start) (2 * e .end + 2) (2 * e .end + 2) i (λ x g. k x (omega arith))
-    (omega arith) h
+right-keeps l K l′ K′ n e en i k TopNil b h = nil-keeps l K l′ K′ n e en i k h
+right-keeps l K l′ K′ n e en i k TopLost b h = nil-keeps l K l′ K′ n e en i k h
 
 pub fine-keeps : (n : ℕ) (l : List Entry) (K : ℕ → List ℕ) (l′ : List Entry) (K′ : ℕ → List ℕ) → ((d : Entry) → In d l → In d l′)
     → ((x : ℕ) → x ≤ 2 * n → K′ x ≡ K x) → (e : Entry) → Fine n l K e → Fine (n + 1) l′ K′ e

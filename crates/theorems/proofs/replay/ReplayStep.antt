@@ -16,7 +16,7 @@ use Rattle.word.specs.Stages.{isIdle}
 use Rattle.queue.specs.Step.{leaves, rowOf, loadedSlot, loaded, stored, steppedOn, stageAfter}
 use Rattle.queue.proofs.StepLaws.{Answered, answered}
 use Rattle.queue.specs.declared.Next.{Next}
-use Rattle.queue.specs.declared.Next.the-variants.{Going, Done, Node, Nil, Full, Refused}
+use Rattle.queue.specs.declared.Next.the-variants.{Going, Done, Node, Nil, Lost, Full, Refused}
 use Rattle.word.specs.declared.Stage.{Stage}
 use Rattle.word.specs.declared.Stage.the-variants.{Idle}
 use Rattle.queue.specs.declared.Stepped.{Stepped}
@@ -45,6 +45,7 @@ answer-number z (Going x) h = refl
 answer-number z Done h = refl
 answer-number z (Node x) h = refl
 answer-number z Nil h = refl
+answer-number z Lost h = refl
 answer-number z Full h = refl
 answer-number z Refused h = absurd h
 
@@ -53,6 +54,7 @@ answer-stage z (Going x) h = refl
 answer-stage z Done h = refl
 answer-stage z (Node x) h = refl
 answer-stage z Nil h = refl
+answer-stage z Lost h = refl
 answer-stage z Full h = refl
 answer-stage z Refused h = absurd h
 

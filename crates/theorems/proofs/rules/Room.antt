@@ -14,7 +14,7 @@ use Rattle.log.specs.Decode.{noEntry}
 use Rattle.log.specs.Numbers.{what, same}
 use Rattle.log.specs.declared.Entry.{Entry}
 use Rattle.log.specs.declared.What.{What}
-use Rattle.log.specs.declared.What.the-variants.{Pushed, Full, BottomNode, BottomNil, TopNode, TopNil}
+use Rattle.log.specs.declared.What.the-variants.{Pushed, Full, BottomNode, BottomNil, TopNode, TopNil, TopLost}
 use Rattle.base.proofs.Cases.{either-way, never, ever, if-eq, if-lt, if-le, if-set}
 use Rattle.base.proofs.Bools.{or-l}
 use Rattle.queue.specs.Step.{loadedSlot, loaded, stageAfter}
@@ -114,6 +114,7 @@ Stock C a b (next.Going y) = lim b y ≤ a
 Stock C a b next.Done = b ≤ a + 1
 Stock C a b (next.Node x) = b + 1 ≤ a
 Stock C a b next.Nil = b ≡ 0
+Stock C a b next.Lost = ⊥
 Stock C a b next.Full = (b ≤ a) × (a ≡ C)
 Stock C a b next.Refused = b ≤ a
 
@@ -192,6 +193,7 @@ module _ (f : Sizes) (w : Fit f) (s : State) (v : Sound f s) (h : Inv f s) (j : 
       either-way (λ (e : Entry). RoomFor (l ++ (e ∷ [])) a y) (isTake (r .call)) (λ _. room-else l _ a y d g) (λ _. room-else l _ a y d g)
   else-after next.Nil a y d g =
       either-way (λ (e : Entry). RoomFor (l ++ (e ∷ [])) a y) (isTake (r .call)) (λ _. room-else l _ a y d g) (λ _. room-else l _ a y d g)
+  else-after next.Lost a y d g = room-else l _ a y d g
   else-after next.Full a y d g = room-else l _ a y d g
   else-after next.Refused a y d g = g
 
@@ -209,6 +211,7 @@ module _ (f : Sizes) (w : Fit f) (s : State) (v : Sound f s) (h : Inv f s) (j : 
       either-way (λ (e : Entry). Fulls (l ++ (e ∷ []))) (isTake (r .call)) (λ _. full-after _ (other TopNode refl)) (λ _. full-after _ (other BottomNode refl))
   fulls-after next.Nil g =
       either-way (λ (e : Entry). Fulls (l ++ (e ∷ []))) (isTake (r .call)) (λ _. full-after _ (other TopNil refl)) (λ _. full-after _ (other BottomNil refl))
+  fulls-after next.Lost g = full-after _ (other TopLost refl)
   fulls-after next.Full g = full-after _ (λ _. g refl)
   fulls-after next.Refused g = j .fulls
 
@@ -254,6 +257,7 @@ module _ (f : Sizes) (w : Fit f) (s : State) (v : Sound f s) (h : Inv f s) (j : 
         (λ _. room-after l _ q b refl here-is refl (omega (arith, room-before)))
     room-here b next.Nil g = either-way (λ (e : Entry). RoomFor (l ++ (e ∷ [])) q b) (isTake (r .call)) (λ t. ever (sym t ∙ no-take))
         (λ _. room-after l _ q b here-is refl refl (omega arith))
+    room-here b next.Lost g = absurd g
     room-here b next.Full g = room-after l _ q b refl refl refl (omega (arith, g .0, room-before))
     room-here b next.Refused g = omega (arith, room-before)
 
@@ -297,6 +301,7 @@ module _ (f : Sizes) (w : Fit f) (s : State) (v : Sound f s) (h : Inv f s) (j : 
         (λ t. ever (sym taking ∙ t))
     top-after next.Nil g b y h = either-way (λ (e : Entry). RoomFor (l ++ (e ∷ [])) b y) (isTake (r .call)) (λ _. room-after l _ b y refl refl refl h)
         (λ t. ever (sym taking ∙ t))
+    top-after next.Lost g b y h = room-after l _ b y refl refl refl h
     top-after next.Full g b y h = absurd (no-push g)
     top-after next.Refused g b y h = h
 

@@ -10,24 +10,25 @@ use lib.ListN.{length}
 use Rattle.log.specs.Encode.{EntryFits}
 use Rattle.base.specs.Lists.{All}
 use Rattle.log.specs.Decode.{noEntry}
-use Rattle.log.specs.Numbers.{push, bottomPop, topPop, nil, done, full, noMoment, kindOf, resultOf, bearsMoment, whatOf, what}
+use Rattle.log.specs.Numbers.{push, bottomPop, topPop, nil, done, full, lost, mostResult, noMoment, kindOf, resultOf, bearsMoment, whatOf, what}
 use Rattle.log.proofs.NumbersLaws.{what-back}
 use Rattle.log.specs.declared.Entry.{Entry}
 use Rattle.log.specs.declared.What.{What}
-use Rattle.log.specs.declared.What.the-variants.{Pushed, Full, BottomNode, BottomNil, TopNode, TopNil}
+use Rattle.log.specs.declared.What.the-variants.{Pushed, Full, BottomNode, BottomNil, TopNode, TopNil, TopLost}
 use Rattle.word.specs.declared.Stage.{Stage}
 use Rattle.word.specs.declared.Stage.the-variants.{Idle}
 use Rattle.base.proofs.Cases.{if-lt, ever}
 use Rattle.runfile.specs.Encode.{InRanges}
 use Rattle.runfile.specs.File.{RunFile}
 use Rattle.runs.specs.State.{State, processAt}
-use Rattle.rules.specs.Accepted.{Rule1, Rule3, Rule4, EmptyIn, RemovedIn, Accepted}
+use Rattle.rules.specs.Accepted.{IsNil, Rule1, Rule3, Rule4, EmptyIn, RemovedIn, Accepted}
 use Rattle.rules.proofs.Rule6Laws.{rule6-to}
 use Rattle.rules.specs.Contents.{bears, dropLast, dropFirst, applied, eventAt, before}
 use Rattle.runs.proofs.Scripts.{sizesOf}
 use Rattle.theorems.proofs.queues.Origins.{Origins, Differ, node-in as file-node}
 use Rattle.base.specs.Lists.{All}
 use Rattle.base.proofs.Lists.{all-snoc, all-at, pairs-at, in-at}
+use Rattle.theorems.proofs.queue.Cases.{top-nil}
 use Rattle.theorems.proofs.queue.Content.{at, content, content-before}
 use Rattle.theorems.proofs.queue.Memory.{memoryAt, asOwner}
 use Rattle.theorems.proofs.queue.Inv.{Fine, Right, Cause, empty, taken, pending}
@@ -54,6 +55,7 @@ applied-in BottomNode v c f a = last-in c a
 applied-in BottomNil v c f a = a
 applied-in TopNode v c f a = first-in c a
 applied-in TopNil v c f a = a
+applied-in TopLost v c f a = a
 
 bottom-in : (c : List ℕ) (x : ℕ) → All NodeIn (c ++ (x ∷ [])) → NodeIn x
 bottom-in [] x a = a .0
@@ -68,8 +70,25 @@ written-what P e h w d = subst (λ (x : What). Fields x e) (did-what P e h ∙ d
 
 -- rule 1, of an entry that did w; x and y are its kind and its result
 module _ (P : ℕ) (e : Entry) (p : e .process < P) (q : e .queue < P) (order : e .start ≤ e .end) (end : e .end ≤ 32766) where
-  by-numbers : (x y : ℕ) → e .kind ≡ x → e .result ≡ y → (push ≤ x) × (x ≤ topPop) × (y ≤ full) × (y ≡ full → x ≡ push) × (y ≡ nil → x ≡ push → ⊥)
-      → ((e .kind ≡ push) ⊎ (e .kind ≡ bottomPop) → e .process ≡ e .queue) → (e .node ≡ 0 → y ≡ nil) × (y ≡ nil → e .node ≡ 0) → Rule1 P e
+  -- node 0 exactly for NIL
+  abbrev NodeRight : ℕ → Type 0
+  NodeRight y = ((1 ≤ e .node) × (IsNil y → ⊥)) ⊎ ((e .node ≡ 0) × IsNil y)
+
+  to-nil : (y : ℕ) → NodeRight y → e .node ≡ 0 → IsNil y
+  to-nil y (inl h) d = absurd (omega (arith, h .0))
+  to-nil y (inr h) d = h .1
+
+  from-nil : (y : ℕ) → NodeRight y → IsNil y → e .node ≡ 0
+  from-nil y (inl h) d = absurd (h .1 d)
+  from-nil y (inr h) d = h .0
+
+  no-nil : (y : ℕ) → (y ≡ nil → ⊥) × (y ≡ lost → ⊥) → IsNil y → ⊥
+  no-nil y h (inl d) = h .0 d
+  no-nil y h (inr d) = h .1 d
+
+  by-numbers : (x y : ℕ) → e .kind ≡ x → e .result ≡ y
+      → (push ≤ x) × (x ≤ topPop) × (y ≤ mostResult) × (y ≡ full → x ≡ push) × (y ≡ nil → x ≡ push → ⊥) × (y ≡ lost → x ≡ topPop)
+      → ((e .kind ≡ push) ⊎ (e .kind ≡ bottomPop) → e .process ≡ e .queue) → NodeRight y → Rule1 P e
   by-numbers x y k r n own node = record {
     process = p;
     queue = q;
@@ -79,8 +98,9 @@ module _ (P : ℕ) (e : Entry) (p : e .process < P) (q : e .queue < P) (order : 
     own = own;
     full-push = λ d. k ∙ n .3 (sym r ∙ d);
     nil-pop = λ d c. n .4 (sym r ∙ d) (sym k ∙ c);
-    node-nil = λ d. r ∙ node .0 d;
-    nil-node = λ d. node .1 (sym r ∙ d);
+    lost-top = λ d. k ∙ n .5 (sym r ∙ d);
+    node-nil = λ d. subst IsNil (sym r) (to-nil y node d);
+    nil-node = λ d. from-nil y node (subst IsNil r d);
     start = order;
     end = end;
   }
@@ -89,13 +109,14 @@ module _ (P : ℕ) (e : Entry) (p : e .process < P) (q : e .queue < P) (order : 
   no-own k (inl d) = absurd (omega arith)
   no-own k (inr d) = absurd (omega arith)
 
-  rule1 : (w : What) → e .kind ≡ kindOf w → e .result ≡ resultOf w → Fields w e → ((resultOf w ≡ nil → ⊥) → 1 ≤ e .node) → Rule1 P e
-  rule1 Pushed k r h n = let i = n (λ d. omega arith) in by-numbers push done k r (omega arith) (λ _. sym h) (omega arith)
-  rule1 Full k r h n = let i = n (λ d. omega arith) in by-numbers push full k r (omega arith) (λ _. sym (h .0)) (omega arith)
-  rule1 BottomNode k r h n = let i = n (λ d. omega arith) in by-numbers bottomPop done k r (omega arith) (λ _. sym h) (omega arith)
-  rule1 BottomNil k r h n = by-numbers bottomPop nil k r (omega arith) (λ _. sym (h .0)) (omega arith)
-  rule1 TopNode k r h n = let i = n (λ d. omega arith) in by-numbers topPop done k r (omega arith) (no-own k) (omega arith)
-  rule1 TopNil k r h n = by-numbers topPop nil k r (omega arith) (no-own k) (omega arith)
+  rule1 : (w : What) → e .kind ≡ kindOf w → e .result ≡ resultOf w → Fields w e → ((IsNil (resultOf w) → ⊥) → 1 ≤ e .node) → Rule1 P e
+  rule1 Pushed k r h n = let u = no-nil done (omega arith) in by-numbers push done k r (omega arith) (λ _. sym h) (inl (n u, u))
+  rule1 Full k r h n = let u = no-nil full (omega arith) in by-numbers push full k r (omega arith) (λ _. sym (h .0)) (inl (n u, u))
+  rule1 BottomNode k r h n = let u = no-nil done (omega arith) in by-numbers bottomPop done k r (omega arith) (λ _. sym h) (inl (n u, u))
+  rule1 BottomNil k r h n = by-numbers bottomPop nil k r (omega arith) (λ _. sym (h .0)) (inr (h .1, inl refl))
+  rule1 TopNode k r h n = let u = no-nil done (omega arith) in by-numbers topPop done k r (omega arith) (no-own k) (inl (n u, u))
+  rule1 TopNil k r h n = by-numbers topPop nil k r (omega arith) (no-own k) (inr (h .0, inl refl))
+  rule1 TopLost k r h n = by-numbers topPop lost k r (omega arith) (no-own k) (inr (h .0, inr refl))
 
 -- rule 3: where there is no moment
 no-moment : (e : Entry) (w : What) → Fields w e → bearsMoment w ≡ false → e .moment ≡ noMoment
@@ -105,6 +126,7 @@ no-moment e BottomNode h b = ever b
 no-moment e BottomNil h b = ever b
 no-moment e TopNode h b = ever b
 no-moment e TopNil h b = h .1
+no-moment e TopLost h b = h .1
 
 module _ (f : RunFile) (w : InRanges f) (s : State) (h : Inv (sizesOf f) s) (j : Room (sizesOf f) s) (g : Origins f s) (idle : (p : ℕ) → processAt (s .bench) p .stage ≡ Idle)
     (short : s .bench .steps ≤ 32767) where
@@ -144,17 +166,18 @@ module _ (f : RunFile) (w : InRanges f) (s : State) (h : Inv (sizesOf f) s) (j :
 
     -- its node was pushed
     node-in : (w : What) → what e ≡ w → Fields w e → Right l (nodesBy (e .queue) l (memoryAt s (e .queue)) (seat s (e .queue))) e w
-        → (e .node ≤ 65535) × ((resultOf w ≡ nil → ⊥) → 1 ≤ e .node)
+        → (e .node ≤ 65535) × ((IsNil (resultOf w) → ⊥) → 1 ≤ e .node)
     node-in Pushed d g r = let b = file-in i lt (inl d) in (b .1, λ _. b .0)
     node-in Full d g r = let b = file-in i lt (inr d) in (b .1, λ _. b .0)
     node-in BottomNode d g r =
         let b = bottom-in (r .0) (e .node) (subst (All NodeIn) (sym (is-before (e .queue) (e .moment)) ∙ r .1) (nodes-in (e .queue) (e .moment))) in
         (b .1, λ _. b .0)
-    node-in BottomNil d g r = (omega (arith, g .1), λ u. absurd (u refl))
+    node-in BottomNil d g r = (omega (arith, g .1), λ u. absurd (u (inl refl)))
     node-in TopNode d g r =
         let b = subst (All NodeIn) (sym (is-before (e .queue) (e .moment)) ∙ r .1) (nodes-in (e .queue) (e .moment)) .0 in
         (b .1, λ _. b .0)
-    node-in TopNil d g r = (omega (arith, g .0), λ u. absurd (u refl))
+    node-in TopNil d g r = (omega (arith, g .0), λ u. absurd (u (inl refl)))
+    node-in TopLost d g r = (omega (arith, g .0), λ u. absurd (u (inr refl)))
 
     fields : Fields (what e) e
     fields = written-what (length (f .shares)) e (wrote i lt) (what e) refl
@@ -205,6 +228,7 @@ module _ (f : RunFile) (w : InRanges f) (s : State) (h : Inv (sizesOf f) s) (j :
     fourth-rule BottomNil d r = sym (is-before (e .queue) (e .moment)) ∙ r
     fourth-rule TopNode d r = (r .0, sym (is-before (e .queue) (e .moment)) ∙ r .1)
     fourth-rule TopNil d r = tt
+    fourth-rule TopLost d r = tt
 
     fifth-rule : Cause l (nodesBy (e .queue) l (memoryAt s (e .queue)) (seat s (e .queue))) (e .process) (e .queue) (e .start) (2 * e .end + 2)
         → EmptyIn (at l) (length l) e ⊎ RemovedIn (at l) (length l) e
@@ -229,8 +253,10 @@ module _ (f : RunFile) (w : InRanges f) (s : State) (h : Inv (sizesOf f) s) (j :
     rule3 = third-rule;
     differ = λ i k lt below. pairs-at Order noEntry l (h .order) i k lt below .differ;
     rule4 = λ i lt. fourth-rule i lt (what (at l i)) refl (fine i lt .right);
-    rule5 = λ i lt d. fifth-rule i lt (subst (Right l (nodesBy (at l i .queue) l (memoryAt s (at l i .queue)) (seat s (at l i .queue))) (at l i)) d
-        (fine i lt .right));
+    rule5 = λ i lt d.
+        let K = nodesBy (at l i .queue) l (memoryAt s (at l i .queue)) (seat s (at l i .queue)) in
+        fifth-rule i lt (top-nil (λ (w : What). Right l K (at l i) w
+        → Cause l K (at l i .process) (at l i .queue) (at l i .start) (2 * at l i .end + 2)) (λ c. c) (λ c. c) (what (at l i)) d (fine i lt .right));
     rule6 = λ i lt d. rule6-to (at l) (length l) (f .size) i lt (j .fulls i lt d);
   }
 

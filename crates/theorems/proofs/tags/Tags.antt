@@ -83,6 +83,9 @@ module _ (W C : ℕ) (w : Word) (v n seen : ℕ) (e : w .tag ≡ n % 2 ^ W) wher
   no-nil : {A : Type 0} (x : ℕ) → next.Nil ≡ next.Node x → A
   no-nil x d = absurd (let c : _≡_ {A = ℕ} 0 1 = cc in omega arith)
 
+  no-lost : {A : Type 0} (x : ℕ) → next.Lost ≡ next.Node x → A
+  no-lost x d = absurd (let c : _≡_ {A = ℕ} 0 1 = cc in omega arith)
+
   -- a step that leaves the tag, of the owner's or with no node
   keeps : (s : Stage) (o : Stepped) → o .reset ≡ false → o .word .tag ≡ w .tag → (pastB4 (stageAfter (o .next)) ≡ true → loadedTag (stageAfter (o .next)) ≡ w .tag)
       → (pastT1 (stageAfter (o .next)) ≡ true → (cond (atT1 s) n seen ≤ n) × (loadedTag (stageAfter (o .next)) ≡ cond (atT1 s) n seen % 2 ^ W))
@@ -118,7 +121,7 @@ module _ (W C : ℕ) (w : Word) (v n seen : ℕ) (e : w .tag ≡ n % 2 ^ W) wher
       (λ _. keeps (T2 t g) _ refl refl never b (λ _ x d. no-node _ x d))
   tag-step (T3 t g c) a b = keeps (T3 t g c) _ refl refl never b (λ _ x d. no-node _ x d)
   tag-step (T4 t g c y) a b = if-age (Gives (T4 t g c y)) w t g (λ i j. keeps (T4 t g c y) _ refl (sym j) never never (λ _ x d. (refl, j)))
-      (λ _. keeps (T4 t g c y) _ refl refl never never (λ _ x d. no-nil x d))
+      (λ _. keeps (T4 t g c y) _ refl refl never never (λ _ x d. no-lost x d))
   tag-step B1 a b = either-way (Gives B1) (eqb (w .bottom) 0) (λ _. keeps B1 _ refl refl never never never) (λ _. keeps B1 _ refl refl never never never)
   tag-step (B2 c) a b = keeps (B2 c) _ refl refl never never never
   tag-step (B3 c) a b = keeps (B3 c) _ refl refl never never never
@@ -148,6 +151,7 @@ none-gone r n (next.Node x) h = by (isTake (r .call)) refl
     by true e = rw (eq-eqb (r .resetsAtT1) n (h x refl e)) refl
     by false e = refl
 none-gone r n next.Nil h = refl
+none-gone r n next.Lost h = refl
 none-gone r n next.Full h = refl
 none-gone r n next.Refused h = refl
 
