@@ -13,5 +13,7 @@ pub mod Reached
 pub mod Scripts
 pub mod States
 pub mod InRange
+-- Result 3 is written exactly for NIL at T4.
+pub mod LostLaws
 -- Of the promise of `run_len`: the front part of the buffer.
 pub mod PromiseLaws

@@ -2,23 +2,28 @@
 use Prim.Native.Nat.{ℕ, _+_, _-_, _≤_, _<_}
 use mathlib.Core.Path.{_≡_}
 use mathlib.Core.Bool.{true, false, cond}
+use mathlib.Core.Logic.{_↔_}
 use mathlib.Core.List.{List, [], _∷_, map}
 use lib.Dec.{eqb}
 use lib.ListN.{length, getD, take}
 use Rattle.base.specs.Bytes.{Bytes}
-use Rattle.log.specs.Numbers.{push, bottomPop}
+use Rattle.log.specs.Numbers.{push, bottomPop, lost}
 use Rattle.log.specs.declared.Entry.{Entry}
 use Rattle.word.specs.Stages.{isIdle}
-use Rattle.queue.specs.Step.{loadedSlot, LoadsBelow, StoresBelow}
+use Rattle.word.specs.declared.Stage.{Stage}
+use Rattle.word.specs.declared.Stage.the-variants.{T4}
+use Rattle.word.specs.declared.Word.{Word}
+use Rattle.queue.specs.Step.{sameAge, loadedSlot, LoadsBelow, StoresBelow}
 use Rattle.runfile.specs.Check.{sum}
 use Rattle.runfile.specs.Encode.{InRanges}
 use Rattle.runfile.specs.File.{RunFile, script}
 use Rattle.runfile.specs.declared.Call.{Call}
 use Rattle.runfile.specs.declared.Call.the-variants.{Push, Pop, Take}
+use Rattle.runs.specs.Moment.{queueOf, Ended, Nothing, ends}
 use Rattle.runs.specs.Run.{closingSteps, closed, runOf}
-use Rattle.runs.specs.State.{Process, State, processAt}
+use Rattle.runs.specs.State.{Process, State, queueAt, processAt}
 use Rattle.runs.specs.States.{StateOf}
-use Rattle.runs.specs.Turn.{ready, stepping}
+use Rattle.runs.specs.Turn.{ready, stepping, ending}
 
 -- a run has at most 4,096 + 48 steps
 abbrev pub StepsMost : Type 0
@@ -40,6 +45,25 @@ BelowC = (f : RunFile) → InRanges f → (s : State) → StateOf f s → (p : �
 -- number 9 never arises
 abbrev pub Never9 : Type 0
 Never9 = (file : List ℕ) → Bytes file → (room : ℕ) → runOf file room .number ≡ 9 → ⊥
+
+-- a stage at T4 that finds another age than T1 loaded
+pub record FailsT4 (w : Word) (z : Stage) : Type 0 where
+  pub t : ℕ
+  pub g : ℕ
+  pub b : ℕ
+  pub x : ℕ
+  pub at : z ≡ T4 t g b x
+  pub changed : sameAge w t g ≡ false
+
+abbrev pub Writes3 : Ended → Type 0
+Writes3 Nothing = ⊥
+Writes3 (ends e) = e .result ≡ lost
+
+-- whoever steps next, result 3 is written exactly for NIL at T4 (C-15)
+abbrev pub Lost3 : Type 0
+Lost3 = (f : RunFile) → InRanges f → (s : State) → StateOf f s → (p : ℕ) → p < length (f .shares)
+    → let r : Process = ready (f .calls) (s .bench .steps) (processAt (s .bench) p) in
+    Writes3 (ending p r (s .bench) (stepping (f .width) (f .size) p r s .next)) ↔ FailsT4 (queueAt (s .bench) (queueOf p (r .call)) .word) (r .stage)
 
 -- the entries of process p, in order
 abbrev pub entriesOf : ℕ → List Entry → List Entry
