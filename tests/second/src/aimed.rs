@@ -2,7 +2,7 @@
 
 use crate::logs::Log;
 use crate::random::Random;
-use second::log::{Entry, BOTTOM_POP, DONE, FULL, NIL, NO_MOMENT, PUSH, TOP_POP};
+use second::log::{Entry, BOTTOM_POP, DONE, FULL, LOST, NIL, NO_MOMENT, PUSH, TOP_POP};
 use std::collections::VecDeque;
 
 pub fn aimed_log(random: &mut Random) -> Log {
@@ -121,7 +121,7 @@ fn nil_beside_removal(random: &mut Random) -> Log {
         2 * end + 2,
     ];
     let mut nil = call(1, TOP_POP, 0, NO_MOMENT);
-    nil.result = NIL;
+    nil.result = random.pick(&[NIL, LOST]);
     (nil.start, nil.end) = (start, end);
     log.entries.push(nil);
     let removed_at = random.pick(&edges);

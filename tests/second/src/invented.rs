@@ -3,7 +3,7 @@
 
 use crate::logs::Log;
 use crate::random::Random;
-use second::log::{Entry, BOTTOM_POP, DONE, FULL, MOST, NIL, NO_MOMENT, PUSH, TOP_POP};
+use second::log::{Entry, BOTTOM_POP, DONE, FULL, LOST, MOST, NIL, NO_MOMENT, PUSH, TOP_POP};
 use std::collections::VecDeque;
 
 #[derive(Clone, Copy)]
@@ -125,6 +125,8 @@ impl World {
             if entry.kind == PUSH {
                 entry.result = FULL;
                 entry.node = self.next_node();
+            } else {
+                entry.result = random.pick(&[NIL, LOST]);
             }
             return Call::Decided(entry);
         }

@@ -1,7 +1,7 @@
 //! The judge: the numbers 11 to 19 of a log, from its bytes alone.
 
 use crate::log::{
-    length, Entry, BOTTOM_POP, DONE, FULL, HEAD, MOST, NIL, NO_MOMENT, PUSH, TOP_POP, WIDTH,
+    length, Entry, BOTTOM_POP, DONE, FULL, HEAD, LOST, MOST, NIL, NO_MOMENT, PUSH, TOP_POP, WIDTH,
 };
 use crate::seen::Seen;
 
@@ -123,11 +123,12 @@ impl Log {
             let lawful = entry.process < self.processes
                 && entry.queue < self.processes
                 && (PUSH..=TOP_POP).contains(&entry.kind)
-                && entry.result <= FULL
+                && entry.result <= LOST
                 && (entry.kind == TOP_POP || entry.queue == entry.process)
                 && (entry.result != FULL || entry.kind == PUSH)
                 && (entry.result != NIL || entry.kind != PUSH)
-                && (entry.node == 0) == (entry.result == NIL)
+                && (entry.result != LOST || entry.kind == TOP_POP)
+                && (entry.node == 0) == entry.is_nil()
                 && entry.start <= entry.end
                 && entry.end <= 32766;
             !lawful
@@ -192,7 +193,7 @@ impl Log {
 
     fn rule_5(&self, order: &[usize]) -> Option<usize> {
         self.entries.iter().position(|entry| {
-            entry.kind == TOP_POP && entry.result == NIL && !self.nil_is_lawful(entry, order)
+            entry.kind == TOP_POP && entry.is_nil() && !self.nil_is_lawful(entry, order)
         })
     }
 

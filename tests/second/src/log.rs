@@ -14,6 +14,8 @@ pub const TOP_POP: u8 = 3;
 pub const NIL: u8 = 0;
 pub const DONE: u8 = 1;
 pub const FULL: u8 = 2;
+/// NIL at T4.
+pub const LOST: u8 = 3;
 
 #[derive(Clone, Copy, Default)]
 pub struct Entry {
@@ -32,6 +34,10 @@ pub fn length(entries: usize) -> usize {
 }
 
 impl Entry {
+    pub fn is_nil(&self) -> bool {
+        self.result == NIL || self.result == LOST
+    }
+
     pub fn read(bytes: &[u8]) -> Entry {
         let two = |at: usize| u16::from_be_bytes([bytes[at], bytes[at + 1]]);
         Entry {

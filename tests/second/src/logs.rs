@@ -2,7 +2,7 @@
 
 use crate::damage::damage_bytes;
 use crate::random::Random;
-use second::log::{self, Entry, HEAD, NO_MOMENT, WIDTH};
+use second::log::{self, Entry, HEAD, LOST, NIL, NO_MOMENT, WIDTH};
 
 /// The last end that rule 1 allows.
 const LAST_END: u16 = 32766;
@@ -37,7 +37,7 @@ impl Log {
         }
         let at = random.below(count);
         let other = random.below(count);
-        match random.below(17) {
+        match random.below(18) {
             0 => self.entries.swap(at, other),
             1 => self.entries.swap(at, (at + 1) % count),
             2 => drop(self.entries.remove(at)),
@@ -45,10 +45,18 @@ impl Log {
             4 => self.processes = random.pick(&[0, self.processes.max(2) - 1, 8, 9]),
             5 => self.capacity = random.pick(&[0, 1, 2, 64, 65]),
             6 => self.exchange(at, other, random),
-            7..=10 => move_times(random, &mut self.entries[at]),
-            11..=13 => move_moment(random, &mut self.entries[at]),
+            7 => self.make_old(random),
+            8..=11 => move_times(random, &mut self.entries[at]),
+            12..=14 => move_moment(random, &mut self.entries[at]),
             _ => change_fields(random, &mut self.entries[at]),
         }
+    }
+
+    /// Some NILs at T4 are written as a box of before wrote them.
+    fn make_old(&mut self, random: &mut Random) {
+        let lost = self.entries.iter_mut().filter(|entry| entry.result == LOST);
+        lost.filter(|_| random.one_in(2))
+            .for_each(|entry| entry.result = NIL);
     }
 
     fn exchange(&mut self, at: usize, other: usize, random: &mut Random) {
@@ -94,10 +102,10 @@ fn change_fields(random: &mut Random, entry: &mut Entry) {
         0 => entry.process = random.pick(&[0, 1, 2, 7, 8]),
         1 => entry.queue = random.pick(&[0, 1, 2, 7, 8]),
         2 => entry.kind = random.pick(&[0, 1, 2, 3, 4]),
-        3 => entry.result = random.pick(&[0, 1, 2, 3]),
+        3 => entry.result = random.pick(&[0, 1, 2, 3, 4]),
         4 => entry.node = random.pick(&[0, 1, 2, entry.node.wrapping_add(1), 65535]),
         _ => {
-            entry.result = 0;
+            entry.result = random.pick(&[NIL, LOST]);
             entry.node = 0;
             entry.moment = random.pick(&[entry.moment, NO_MOMENT]);
         }

@@ -1,7 +1,7 @@
 //! What the cases came to on this side, for a person to see that every number occurs.
 
 use crate::cases::Case;
-use second::log::{length, MOST};
+use second::log::{length, Entry, HEAD, LOST, MOST, WIDTH};
 use second::rack::{files, REPLY};
 use std::fmt;
 
@@ -11,6 +11,8 @@ pub struct Mix {
     judged: [usize; 20],
     gone_round: usize,
     no_tag: usize,
+    lost_race: usize,
+    accepted_lost: usize,
     racks: [usize; 23],
     files_of_racks: [usize; 10],
     /// A run without gone-round takes whose log the judge found fault with: there must be none.
@@ -19,7 +21,9 @@ pub struct Mix {
 
 impl Mix {
     pub fn add_log(&mut self, log: &[u8]) {
-        self.judged[second::judge(log).0 as usize] += 1;
+        let number = second::judge(log).0;
+        self.judged[number as usize] += 1;
+        self.accepted_lost += usize::from(number == 0 && has_lost_race(log));
     }
 
     /// Gives the log of a run that was accepted.
@@ -35,6 +39,7 @@ impl Mix {
         log.truncate(written);
         self.gone_round += usize::from(gone_round > 0);
         self.no_tag += usize::from(file[1] == 0);
+        self.lost_race += usize::from(has_lost_race(&log));
         if gone_round == 0 && second::judge(&log).0 != 0 {
             let file = file.to_vec();
             self.faulted = Some(Case::Run { room, file });
@@ -57,12 +62,20 @@ impl Mix {
 
 impl fmt::Display for Mix {
     fn fmt(&self, out: &mut fmt::Formatter) -> fmt::Result {
-        let note = format!(" (gone round {}, no tag {})", self.gone_round, self.no_tag);
+        let (gone_round, no_tag, lost) = (self.gone_round, self.no_tag, self.lost_race);
+        let note = format!(" (gone round {gone_round}, no tag {no_tag}, a race lost {lost})");
         write_counts("runs", &self.runs, &note, out)?;
-        write_counts("logs", &self.judged, "", out)?;
+        let note = format!(" (accepted with a race lost {})", self.accepted_lost);
+        write_counts("logs", &self.judged, &note, out)?;
         write_counts("racks", &self.racks, "", out)?;
         write_counts("files of racks", &self.files_of_racks, "", out)
     }
+}
+
+/// Whether a whole log has a result of NIL at T4.
+fn has_lost_race(log: &[u8]) -> bool {
+    let mut entries = log[HEAD..].chunks_exact(WIDTH).map(Entry::read);
+    entries.any(|entry| entry.result == LOST)
 }
 
 /// A line, where there is something to count.

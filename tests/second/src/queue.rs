@@ -1,6 +1,6 @@
 //! A queue and the fourteen stages of its calls: a step is one access and the local work after it.
 
-use crate::log::{DONE, FULL, NIL};
+use crate::log::{DONE, FULL, LOST, NIL};
 use crate::runfile::Call;
 
 #[derive(Clone, Copy, PartialEq, Eq)]
@@ -52,6 +52,11 @@ use Stage::*;
 
 const NOTHING: After = End {
     result: NIL,
+    node: 0,
+};
+
+const RACE_LOST: After = End {
+    result: LOST,
     node: 0,
 };
 
@@ -156,7 +161,7 @@ impl Queue {
                 if self.exchange(age, taken) {
                     gives(node)
                 } else {
-                    NOTHING
+                    RACE_LOST
                 }
             }
             _ => unreachable!("no stage of a top pop"),

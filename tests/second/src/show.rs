@@ -2,7 +2,7 @@
 
 use crate::cases::Case;
 use crate::layout::{two_bytes, Layout};
-use second::log::{length, Entry, BOTTOM_POP, DONE, FULL, HEAD, NIL, PUSH, TOP_POP, WIDTH};
+use second::log::{length, Entry, BOTTOM_POP, DONE, FULL, HEAD, LOST, NIL, PUSH, TOP_POP, WIDTH};
 use second::rack::files;
 
 pub fn show(case: &Case) -> String {
@@ -131,6 +131,7 @@ fn entry_words(entry: &Entry) -> String {
         NIL => "NIL".to_string(),
         DONE => "done".to_string(),
         FULL => "FULL".to_string(),
+        LOST => "NIL at T4".to_string(),
         other => format!("result {other}"),
     };
     let (process, queue, node) = (entry.process, entry.queue, entry.node);

@@ -18,13 +18,13 @@ entries 3 steps 13 gone-round 0 judge 0
 ";
 const K2_OUTPUT: &str = "0 0 1 1 7 0 2 4
 0 0 2 1 7 6 11 14
-1 0 3 0 0 3 12 65535
+1 0 3 3 0 3 12 65535
 entries 3 steps 13 gone-round 0 judge 0
 ";
 const K3_OUTPUT: &str = "0 0 1 1 5 0 2 4
 0 0 1 1 6 3 5 10
 2 0 3 1 5 9 12 24
-1 0 3 0 0 6 13 65535
+1 0 3 3 0 6 13 65535
 entries 4 steps 14 gone-round 0 judge 0
 ";
 const K4_OUTPUT: &str = "0 0 1 1 1 0 2 4
@@ -40,7 +40,7 @@ const K5_OUTPUT: &str = "0 0 1 1 1 0 2 4
 0 0 1 1 2 12 14 28
 0 0 2 1 2 15 20 32
 0 0 1 1 3 21 23 46
-1 0 3 0 0 3 24 65535
+1 0 3 3 0 3 24 65535
 entries 6 steps 25 gone-round 0 judge 0
 ";
 
@@ -61,7 +61,8 @@ pub fn differences() -> Vec<String> {
         (name, wanted.to_string(), found)
     });
     let refused = refusals().into_iter().chain(repeats());
-    let all = outputs.chain(refused).chain(logs()).chain(racks());
+    let judged = logs().into_iter().chain(nils());
+    let all = outputs.chain(refused).chain(judged).chain(racks());
     all.filter(|(_, wanted, found)| wanted != found)
         .map(|(name, wanted, found)| format!("{name}: wanted\n{wanted}found\n{found}"))
         .collect()
@@ -166,10 +167,6 @@ fn repeats() -> Vec<(&'static str, String, String)> {
 }
 
 fn logs() -> Vec<(&'static str, String, String)> {
-    let judged = |log: &[u8]| {
-        let (number, entry) = second::judge(log);
-        format!("{number} at entry {entry}\n")
-    };
     let mut k4_log = vec![0; length(6)];
     second::run(
         &k4_with(1),
@@ -197,6 +194,32 @@ fn logs() -> Vec<(&'static str, String, String)> {
         ("K14", "19 at entry 1\n".into(), judged(&k14)),
         ("C-12", "19 at entry 3\n".into(), judged(&emptied)),
     ]
+}
+
+fn judged(log: &[u8]) -> String {
+    let (number, entry) = second::judge(log);
+    format!("{number} at entry {entry}\n")
+}
+
+/// One call of process 1 with no node: its kind, its result and its moment.
+fn nils() -> Vec<(&'static str, String, String)> {
+    let none = [255, 255];
+    let calls = [
+        ("3 for a top pop", 3, 3, none, 0),
+        ("0 for a top pop", 3, 0, none, 0),
+        ("4 for a top pop", 3, 4, none, 14),
+        ("3 for a bottom pop", 2, 3, [0, 4], 14),
+        ("0 for a bottom pop", 2, 0, [0, 4], 0),
+        ("3 for a push", 1, 3, none, 14),
+        ("3 with a moment", 3, 3, [0, 4], 16),
+    ];
+    let compare = |(name, kind, result, [high, low], number): (_, u8, u8, [u8; 2], u32)| {
+        let log = [
+            2, 2, 4, 0, 1, 1, 1, kind, result, 0, 0, 0, 0, 0, 2, high, low,
+        ];
+        (name, format!("{number} at entry 0\n"), judged(&log))
+    };
+    calls.into_iter().map(compare).collect()
 }
 
 fn racks() -> Vec<(&'static str, String, String)> {
