@@ -84,6 +84,7 @@ pub(crate) fn answer(of: Answer) {
         Answer::Done => text(b" done"),
         Answer::Node(node) => number(b" node ", node),
         Answer::Nil => text(b" nil"),
+        Answer::Lost => text(b" lost"),
         Answer::Full => text(b" full"),
         Answer::Refused(lent) => {
             text(b" refused 10 ");
