@@ -122,7 +122,7 @@ static void step(struct run *r, unsigned p) {
             r->gone += c->seen != q->resets;
             entry(r, p, 1, c->x, 2 * (last ? o->back : n));
         } else {
-            entry(r, p, 0, 0, 65535);
+            entry(r, p, 3, 0, 65535);
         }
         break;
     case B1:
