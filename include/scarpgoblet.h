@@ -33,7 +33,8 @@ extern "C" {
 size_t scarpgoblet_run(const uint8_t *file, size_t file_len, uint8_t *log, size_t log_len, uint16_t report[4], uint16_t table[536]);
 
 /* Judges the log of `length` bytes at `log`, and writes to none of them: 0 where it is accepted, 11 to 13 where it is no log, 14 to 19
- * where an entry breaks rule 1 to 6. */
+ * where an entry breaks rule 1 to 6. The result in an entry, its fourth byte, is 0 for NIL, 1 for done or a node, 2 for FULL, and 3 for
+ * NIL of a top pop that lost a race (at T4); a log with 0 in place of 3 gets the same number. */
 uint32_t scarpgoblet_judge(const uint8_t *log, size_t length);
 
 /* The entry at fault, from 0, where the number is 14 to 19; else 0. */
