@@ -78,7 +78,8 @@ edges = ((refl, refl, refl), (refl, refl, refl), (refl, refl, refl), (refl, refl
 -- the paper's numbers and values for an answer of each kind
 numbered : (numberOf (Node 7) ≡ 0) × (numberOf (Refused T1) ≡ 10)
     × (stageOf (Going (P3 0)) ≡ P3 0) × (stageOf (Node 7) ≡ Idle) × (stageOf (Refused (B2 0)) ≡ B2 0)
-    × (resultOf (Node 7) ≡ 1 ∷ 7 ∷ []) × (resultOf Nil ≡ 0 ∷ 0 ∷ []) × (resultOf Lost ≡ 3 ∷ 0 ∷ []) × (resultOf Full ≡ 2 ∷ []) × (resultOf Done ≡ 1 ∷ [])
+    × (resultOf (Node 7) ≡ 1 ∷ 7 ∷ []) × (resultOf Nil ≡ 0 ∷ 0 ∷ []) × (resultOf Lost ≡ 3 ∷ 0 ∷ [])
+    × (resultOf Full ≡ 2 ∷ []) × (resultOf Done ≡ 1 ∷ [])
 numbered = (refl, refl, refl, refl, refl, refl, refl, refl, refl, refl)
 
 -- the desk refuses, and alters nothing

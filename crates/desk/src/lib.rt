@@ -6,7 +6,8 @@ use queue::step_on;
 use word::Stage;
 use word::Word;
 
-// What the desk gives back: the next stage, or the result of the call. Lost: NIL at T4. Refused: nothing was done, and the stage is given back as lent.
+// What the desk gives back: the next stage, or the result of the call. Lost: NIL at T4. Refused: nothing was done, and the stage is given
+// back as lent.
 pub enum Answer {
     Going(Stage),
     Done,

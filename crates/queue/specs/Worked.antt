@@ -19,8 +19,8 @@ nothing-there : (rowOf 8 4 (word 1 1 0) 0 (T2 1 0) ≡ leaves (word 1 1 0) Nil) 
 nothing-there = (refl, refl)
 
 -- T4 compares top and tag; where one is another the race was lost
-both-compared : (rowOf 8 4 (word 1 0 5) 0 (T4 0 5 1 7) ≡ leaves (word 1 1 5) (Node 7)) × (rowOf 8 4 (word 1 0 6) 0 (T4 0 5 1 7) ≡ leaves (word 1 0 6) Lost)
-    × (rowOf 8 4 (word 1 1 5) 0 (T4 0 5 1 7) ≡ leaves (word 1 1 5) Lost)
+both-compared : (rowOf 8 4 (word 1 0 5) 0 (T4 0 5 1 7) ≡ leaves (word 1 1 5) (Node 7))
+    × (rowOf 8 4 (word 1 0 6) 0 (T4 0 5 1 7) ≡ leaves (word 1 0 6) Lost) × (rowOf 8 4 (word 1 1 5) 0 (T4 0 5 1 7) ≡ leaves (word 1 1 5) Lost)
 both-compared = (refl, refl, refl)
 
 -- the owner gets no node at B4 where b−1 = t

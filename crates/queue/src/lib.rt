@@ -10,7 +10,8 @@ use word::Stage;
 use word::Word;
 use word::stages::below;
 
-// What follows a step: the next stage, or the result of the call. Lost: NIL at T4, where the race was lost. Refused: the step was out of range, and nothing was done.
+// What follows a step: the next stage, or the result of the call. Lost: NIL at T4, where the race was lost. Refused: the step was out of
+// range, and nothing was done.
 pub enum Next {
     Going(Stage),
     Done,

@@ -131,7 +131,7 @@ module _ (P : ℕ) (e : Entry) where
       (le-leb (e .start) (e .end) (r .start)))
       (le-leb (e .end) lastEnd (r .end))
 
-  -- a pop that gave no node gave NIL, and a bottom pop's is 0
+  -- a pop that gave no node and lost no race gave NIL
   not-full : Rule1 P e → (e .kind ≡ push → ⊥) → (e .result ≡ done → ⊥) → (e .result ≡ lost → ⊥) → nil ≡ e .result
   not-full r k d l = let x : e .result ≡ full → ⊥ = λ z. k (r .full-push z) in omega (arith, r .result)
 
@@ -163,11 +163,11 @@ module _ (P : ℕ) (e : Entry) where
           let k = eqb-true (e .kind) bottomPop b in
           (sym k, not-full r (eqb-false (e .kind) push a) (eqb-false (e .result) done c) (no-race (inr k)))
       by false false true v a b c d = (top-kind r (eqb-false (e .kind) push a) (eqb-false (e .kind) bottomPop b), sym (eqb-true (e .result) done c))
-      by false false false true a b c d = (top-kind r (eqb-false (e .kind) push a) (eqb-false (e .kind) bottomPop b), sym (eqb-true (e .result) lost d))
+      by false false false true a b c d =
+          (top-kind r (eqb-false (e .kind) push a) (eqb-false (e .kind) bottomPop b), sym (eqb-true (e .result) lost d))
       by false false false false a b c d = (
         top-kind r (eqb-false (e .kind) push a) (eqb-false (e .kind) bottomPop b),
-        not-full r (eqb-false (e .kind) push a)
-            (eqb-false (e .result) done c) (eqb-false (e .result) lost d),
+        not-full r (eqb-false (e .kind) push a) (eqb-false (e .result) done c) (eqb-false (e .result) lost d),
       )
 
 module _ (d e : Entry) where

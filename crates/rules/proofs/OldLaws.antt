@@ -3,7 +3,6 @@
 use mathlib.Core.Path.{_≡_, refl, sym, ap, _∙_}
 use mathlib.Core.Bool.{Bool, true, false, cond, _&&_, _||_, not}
 use mathlib.Core.Logic.{inl, inr}
-use mathlib.Core.List.{List}
 use Prim.Native.Nat.{ℕ, zero, suc, _+_, _*_}
 use borrow.Author.Tests.{eqb-true}
 use lib.Dec.{ltb, eqb}
@@ -20,7 +19,7 @@ use Rattle.rules.specs.Search.{first, any, anyFrom, lowest}
 use Rattle.rules.specs.Contents.{bears, eventAt, before, applied}
 use Rattle.rules.specs.Rules.{inCall, isEmpty, fresh, lawful, takesTopmost, hasCause, since, keeps1, breaks1, breaks3, breaks4, breaks5, breaks6}
 use Rattle.rules.specs.Judge.{says, first2, orElse, rulesOf, headRight, judgeOf}
-use Rattle.rules.specs.Accepted.{entryOf, AcceptedLog}
+use Rattle.rules.specs.Accepted.{entryOf}
 use Rattle.rules.specs.OldLogs.{withResult, Older, OlderLog, OldAccepted, OldJudged}
 use Rattle.rules.proofs.AcceptedLaws.{entries-are, accepted-says, accepted-only}
 
@@ -136,7 +135,8 @@ rules-same : (l m : Log) → OlderLog l m → rulesIn m ≡ rulesIn l
 rules-same l m o =
     rw (o .processes, o .slots, o .many)
     (sym (rules-old (entryOf (m .entries)) (length (l .entries)) (l .P) (l .C))
-    ∙ ap (λ (g : ℕ → Entry). rulesOf g (length (l .entries)) (l .P) (l .C)) (λ i j. same-old (entryOf (l .entries) j) (entryOf (m .entries) j) (o .each j) i)
+    ∙ ap (λ (g : ℕ → Entry). rulesOf g (length (l .entries)) (l .P) (l .C))
+    (λ i j. same-old (entryOf (l .entries) j) (entryOf (m .entries) j) (o .each j) i)
     ∙ rules-old (entryOf (l .entries)) (length (l .entries)) (l .P) (l .C))
 
 pub old-accepted : OldAccepted

@@ -85,7 +85,8 @@ module _ (W C p : ℕ) (r : Process) (s : State) where
       let slots : List ℕ = getD (s .slots) q [] in
       subst (LostIn w (r .stage))
       (written-lost p (s .bench .steps) r (processAt (s .bench) q) (w .top) (stepping W C p r s .next) h)
-      (either-way (LostBy w (r .stage)) (inRange W C (length slots) w (r .stage)) (λ _. row-lost W C w (loaded slots (loadedSlot (r .stage))) (r .stage)) (λ _. tt))
+      (either-way (LostBy w (r .stage)) (inRange W C (length slots) w (r .stage))
+      (λ _. row-lost W C w (loaded slots (loadedSlot (r .stage))) (r .stage)) (λ _. tt))
 
   lost-row : (v : ℕ) → FailsT4 w (r .stage) → Three (rowOf W C w v (r .stage) .next)
   lost-row v h =

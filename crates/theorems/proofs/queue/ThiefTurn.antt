@@ -179,7 +179,8 @@ module _ (W C n p : ℕ) (call : Call) (place stop f back seen : ℕ) (owner : P
             ctl = h .ctl;
             now-on = λ x g. kp x ∙ h .now-on x (omega arith);
             held = λ d. held-keep n l m s k (view q l m s k) (l ++ (e ∷ [])) m s (view q (l ++ (e ∷ [])) m s k) (λ x g. kp x) refl refl (λ g. g) (λ g. g)
-                (λ d g. free-snoc l e (2 * k) g (λ u. never (sym silent ∙ u))) (λ d g. free-snoc l e (suc (2 * k)) g (λ u. never (sym silent ∙ u))) (h .held d);
+                (λ d g. free-snoc l e (2 * k) g (λ u. never (sym silent ∙ u)))
+                (λ d g. free-snoc l e (suc (2 * k)) g (λ u. never (sym silent ∙ u))) (h .held d);
           };
           rely = record { calm = calm-refl m s; change = still refl refl; edge = λ e d g y. old g y refl (h .held g .late) refl; kept = λ x g. kp x };
           grow = more e (new-entry (at z) did 0 noMoment f-le (λ d. never (sym silent ∙ d)) (λ d. never (sym silent ∙ d))
