@@ -1,4 +1,4 @@
--- The log's numbers as document 01, "The log", gives them, each once, and which calls have a moment.
+-- The log's numbers as document 01, "The log", gives them, and document 02 in C-15, each once, and which calls have a moment.
 use Prim.Native.Nat.{ℕ}
 use mathlib.Core.Bool.{Bool, true, false, cond, _&&_, _||_}
 use lib.Dec.{eqb}

@@ -41,6 +41,7 @@ resets W w g n = record { word = ageTo w 0 (nextTag W g); store = store.Nothing;
 abbrev pub sameAge : Word → ℕ → ℕ → Bool
 sameAge w t g = eqb (w .top) t && eqb (w .tag) g
 
+-- NIL at T4 is `Lost`: the race was lost (C-15)
 abbrev pub rowOf : ℕ → ℕ → Word → ℕ → Stage → Stepped
 rowOf W C w v Idle = leaves w (Going Idle)
 rowOf W C w v (P1 node) = cond (eqb (w .bottom) C) (leaves w Full) (leaves w (Going (P2 node (w .bottom))))
