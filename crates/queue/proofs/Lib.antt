@@ -1,3 +1,4 @@
--- Laws of the rows of the table, and that the promise settles its answer.
+-- Laws of the step, on three numbers and with top and tag in one word; and that the promises settle their answers.
 pub mod StepLaws
+pub mod PackedLaws
 pub mod Settled

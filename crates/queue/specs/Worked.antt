@@ -2,7 +2,9 @@
 use mathlib.Core.Path.{_≡_, refl}
 use Prim.Native.Nat.{ℕ}
 use Rattle.queue.specs.Step.{leaves, resets, rowOf, loadedSlot}
+use Rattle.queue.specs.Packed.{packed, topOf, tagOf, nextAge, packedLeaves, packedRow}
 use Rattle.queue.specs.declared.Load.the-variants as Load
+use Rattle.queue.specs.declared.PackedWord.{PackedWord}
 use Rattle.word.specs.declared.Word.{Word}
 use Rattle.word.specs.declared.Stage.the-variants.{P1, P2, T2, T3, T4, B3, B4, B5, B6, B7}
 use Rattle.queue.specs.declared.Next.the-variants.{Going, Node, Nil, Lost, Full}
@@ -38,3 +40,20 @@ no-tag = (refl, refl)
 -- T3 loads slot t and B3 slot b−1; P2 loads none, and stores
 loads : (loadedSlot (T3 2 0 3) ≡ Load.Slot 2) × (loadedSlot (B3 3) ≡ Load.Slot 2) × (loadedSlot (P2 7 3) ≡ Load.Nothing)
 loads = (refl, refl, refl)
+
+-- the age in one word: tag 257 and top 1 are 257 × 65,536 + 1; the age after tag 65,535 is the word 0, and with no tag it is always 0
+ages : (packed 1 257 ≡ 16842753) × (topOf 16842753 ≡ 1) × (tagOf 16842753 ≡ 257) × (nextAge 16 (packed 1 65535) ≡ 0) × (nextAge 0 (packed 1 0) ≡ 0)
+    × (nextAge 16 (packed 3 7) ≡ 524288)
+ages = (refl, refl, refl, refl, refl, refl)
+
+abbrev held : ℕ → ℕ → PackedWord
+held b a = record { bottom = b; age = record { word = a } }
+
+-- T4 compares the whole word and stores the whole word: a tag of 257 is not 1, though the lower halves agree
+whole : (packedRow 16 4 (held 1 65536) 0 (T4 0 1 1 7) ≡ packedLeaves (held 1 65537) (Node 7))
+    × (packedRow 16 4 (held 1 16842752) 0 (T4 0 1 1 7) ≡ packedLeaves (held 1 16842752) Lost)
+whole = (refl, refl)
+
+-- B6 after tag 65,535; and B7 stores the age after the one that B4 loaded, here (1, 65,535), and not after the one that it finds, (1, 8)
+stored-whole : (packedRow 16 4 (held 0 4294901760) 0 (B6 1 7 0 65535) .word ≡ held 0 0) × (packedRow 16 4 (held 0 524289) 0 (B7 1 7 1 65535) .word ≡ held 0 0)
+stored-whole = (refl, refl)

@@ -2,7 +2,9 @@
 // It knows nothing of how slots lie, of processes or of runs.
 ghost use mathlib.Core.Path.{_≡_};
 ghost use Rattle.queue.specs.Step.{loadedSlot, loaded, stored, StepOn};
+ghost use Rattle.queue.specs.Packed.{StepPacked};
 
+mod age; // top and tag in one word
 mod rows; // the rows of the table
 mod tag; // the next tag, which goes round
 
@@ -36,6 +38,25 @@ pub enum Store {
 
 pub struct Stepped {
     pub word: Word,
+    pub store: Store,
+    pub reset: bool,
+    pub next: Next,
+}
+
+// Top and tag in one word, as the box has them: tag × 65,536 + top.
+pub struct PackedAge {
+    pub word: u32,
+}
+
+// The control word as the box has it.
+pub struct PackedWord {
+    pub bottom: u16,
+    pub age: PackedAge,
+}
+
+// A step on such a word.
+pub struct PackedStep {
+    pub word: PackedWord,
     pub store: Store,
     pub reset: bool,
     pub next: Next,
@@ -80,10 +101,16 @@ fn store_in(slots: &mut [u16], made: Store)
 }
 
 // The step of a stage on its queue's slots, where it is in range: the slot that the stage touches is loaded or stored, and no other.
-pub fn step_on(width: u8, size: u8, word: Word, slots: &mut [u16], stage: Stage) -> Stepped
-    ensures { λ r. ⌜ StepOn width size word (now (slots .entry)) stage r (now (slots .exit)) ⌝ }
+pub fn step_packed(
+    width: u8,
+    size: u8,
+    word: PackedWord,
+    slots: &mut [u16],
+    stage: Stage,
+) -> PackedStep
+    ensures { λ r. ⌜ StepPacked width size word (now (slots .entry)) stage r (now (slots .exit)) ⌝ }
 {
-    if range::in_range(width, size, slots.len(), word, stage) {
+    if range::in_range(width, size, slots.len(), word.unpacked(), stage) {
         let loaded = load_from(slots, stage);
         let stepped = rows::row(width, size, word, loaded, stage);
         let made = stepped.store;
@@ -92,4 +119,12 @@ pub fn step_on(width: u8, size: u8, word: Word, slots: &mut [u16], stage: Stage)
     } else {
         rows::leaves(word, Next::Refused)
     }
+}
+
+// The same on a word of three numbers: packed, stepped and unpacked.
+pub fn step_on(width: u8, size: u8, word: Word, slots: &mut [u16], stage: Stage) -> Stepped
+    ensures { λ r. ⌜ StepOn width size word (now (slots .entry)) stage r (now (slots .exit)) ⌝ }
+{
+    let stepped = step_packed(width, size, PackedWord::of(word), slots, stage);
+    stepped.unpacked()
 }

@@ -3,20 +3,20 @@
 ghost use mathlib.Core.Path.{_≡_};
 ghost use Prim.Native.Nat.{_≤_, _<_};
 ghost use Rattle.range.specs.inner.Facts.{InRange};
-ghost use Rattle.queue.specs.Step.{leaves as leavesOf, resets, sameAge, rowOf};
+ghost use Rattle.queue.specs.Packed.{packed, unpacked, packedLeaves, packedResets, sameWord, packedRow};
 use crate::Next;
-use crate::Stepped;
+use crate::PackedAge;
+use crate::PackedStep;
+use crate::PackedWord;
 use crate::Store;
-use crate::tag::next_tag;
 use word::Stage;
-use word::Word;
 use word::stages::below;
 
 // A step that leaves this word, stores in no slot and is no reset.
-pub(crate) fn leaves(word: Word, next: Next) -> Stepped
-    ensures { λ r. ⌜ r ≡ leavesOf word next ⌝ }
+pub(crate) fn leaves(word: PackedWord, next: Next) -> PackedStep
+    ensures { λ r. ⌜ r ≡ packedLeaves word next ⌝ }
 {
-    Stepped {
+    PackedStep {
         word,
         store: Store::Nothing,
         reset: false,
@@ -24,15 +24,15 @@ pub(crate) fn leaves(word: Word, next: Next) -> Stepped
     }
 }
 
-// Age becomes (0, next g).
-fn reset(width: u8, word: Word, g: u16, next: Next) -> Stepped
+// Age becomes (0, next g), stored whole: (t, g) is the age that was loaded.
+fn reset(width: u8, word: PackedWord, t: u16, g: u16, next: Next) -> PackedStep
     requires { ⌜ width ≤ 16 ⌝ }
-    ensures { λ r. ⌜ r ≡ resets width word g next ⌝ }
+    ensures { λ r. ⌜ r ≡ packedResets width word (packed t g) next ⌝ }
 {
-    Stepped {
-        word: Word {
-            top: 0,
-            tag: next_tag(width, g),
+    let loaded = PackedAge::of(t, g);
+    PackedStep {
+        word: PackedWord {
+            age: loaded.next_age(width),
             ..word
         },
         store: Store::Nothing,
@@ -41,16 +41,18 @@ fn reset(width: u8, word: Word, g: u16, next: Next) -> Stepped
     }
 }
 
-// Age is still (t, g).
-fn same_age(word: Word, t: u16, g: u16) -> bool
-    ensures { λ r. ⌜ r ≡ sameAge word t g ⌝ }
+// Age is still (t, g): the whole word is compared.
+fn same_age(word: PackedWord, t: u16, g: u16) -> bool
+    ensures { λ r. ⌜ r ≡ sameWord word t g ⌝ }
 {
-    (word.top == t) & (word.tag == g)
+    let age = word.age;
+    let loaded = PackedAge::of(t, g);
+    age.word == loaded.word
 }
 
 // Load bottom as b; b = C: return FULL.
-fn p1(size: u8, word: Word, node: u16) -> Stepped
-    ensures { λ r. ⌜ r ≡ rowOf 0 size word 0 (Stage.P1 node) ⌝ }
+fn p1(size: u8, word: PackedWord, node: u16) -> PackedStep
+    ensures { λ r. ⌜ r ≡ packedRow 0 size word 0 (Stage.P1 node) ⌝ }
 {
     let b = word.bottom;
     if b == size as u16 {
@@ -61,10 +63,10 @@ fn p1(size: u8, word: Word, node: u16) -> Stepped
 }
 
 // Store the node in slot b.
-fn p2(word: Word, node: u16, b: u16) -> Stepped
-    ensures { λ r. ⌜ r ≡ rowOf 0 0 word 0 (Stage.P2 node b) ⌝ }
+fn p2(word: PackedWord, node: u16, b: u16) -> PackedStep
+    ensures { λ r. ⌜ r ≡ packedRow 0 0 word 0 (Stage.P2 node b) ⌝ }
 {
-    Stepped {
+    PackedStep {
         word,
         store: Store::Slot(b, node),
         reset: false,
@@ -73,26 +75,27 @@ fn p2(word: Word, node: u16, b: u16) -> Stepped
 }
 
 // Store b+1 in bottom; return done.
-fn p3(word: Word, b: u16) -> Stepped
+fn p3(word: PackedWord, b: u16) -> PackedStep
     requires { ⌜ b < 64 ⌝ }
-    ensures { λ r. ⌜ r ≡ rowOf 0 0 word 0 (Stage.P3 b) ⌝ }
+    ensures { λ r. ⌜ r ≡ packedRow 0 0 word 0 (Stage.P3 b) ⌝ }
 {
     let bottom = b + 1;
-    leaves(Word { bottom, ..word }, Next::Done)
+    leaves(PackedWord { bottom, ..word }, Next::Done)
 }
 
 // Load age as (t, g).
-fn t1(word: Word) -> Stepped
-    ensures { λ r. ⌜ r ≡ rowOf 0 0 word 0 Stage.T1 ⌝ }
+fn t1(word: PackedWord) -> PackedStep
+    ensures { λ r. ⌜ r ≡ packedRow 0 0 word 0 Stage.T1 ⌝ }
 {
-    let t = word.top;
-    let g = word.tag;
+    let age = word.age;
+    let t = age.top();
+    let g = age.tag();
     leaves(word, Next::Going(Stage::T2 { t, g }))
 }
 
 // Load bottom as b; b ≤ t: return NIL.
-fn t2(word: Word, t: u16, g: u16) -> Stepped
-    ensures { λ r. ⌜ r ≡ rowOf 0 0 word 0 (Stage.T2 t g) ⌝ }
+fn t2(word: PackedWord, t: u16, g: u16) -> PackedStep
+    ensures { λ r. ⌜ r ≡ packedRow 0 0 word 0 (Stage.T2 t g) ⌝ }
 {
     let b = word.bottom;
     if b <= t {
@@ -103,35 +106,29 @@ fn t2(word: Word, t: u16, g: u16) -> Stepped
 }
 
 // Load slot t.
-fn t3(word: Word, x: u16, t: u16, g: u16, b: u16) -> Stepped
-    ensures { λ r. ⌜ r ≡ rowOf 0 0 word x (Stage.T3 t g b) ⌝ }
+fn t3(word: PackedWord, x: u16, t: u16, g: u16, b: u16) -> PackedStep
+    ensures { λ r. ⌜ r ≡ packedRow 0 0 word x (Stage.T3 t g b) ⌝ }
 {
     leaves(word, Next::Going(Stage::T4 { t, g, b, x }))
 }
 
 // If age is still (t, g), age becomes (t+1, g); changed: return the node; else NIL, told apart from that of T2.
-fn t4(word: Word, t: u16, g: u16, b: u16, x: u16) -> Stepped
+fn t4(word: PackedWord, t: u16, g: u16, b: u16, x: u16) -> PackedStep
     requires { ⌜ t < 64 ⌝ }
-    ensures { λ r. ⌜ r ≡ rowOf 0 0 word 0 (Stage.T4 t g b x) ⌝ }
+    ensures { λ r. ⌜ r ≡ packedRow 0 0 word 0 (Stage.T4 t g b x) ⌝ }
 {
     if same_age(word, t, g) {
         let top = t + 1;
-        leaves(
-            Word {
-                top,
-                tag: g,
-                ..word
-            },
-            Next::Node(x),
-        )
+        let age = PackedAge::of(top, g);
+        leaves(PackedWord { age, ..word }, Next::Node(x))
     } else {
         leaves(word, Next::Lost)
     }
 }
 
 // Load bottom as b; b = 0: return NIL.
-fn b1(word: Word) -> Stepped
-    ensures { λ r. ⌜ r ≡ rowOf 0 0 word 0 Stage.B1 ⌝ }
+fn b1(word: PackedWord) -> PackedStep
+    ensures { λ r. ⌜ r ≡ packedRow 0 0 word 0 Stage.B1 ⌝ }
 {
     let b = word.bottom;
     if b == 0 {
@@ -142,26 +139,27 @@ fn b1(word: Word) -> Stepped
 }
 
 // Store b−1 in bottom.
-fn b2(word: Word, b: u16) -> Stepped
-    ensures { λ r. ⌜ r ≡ rowOf 0 0 word 0 (Stage.B2 b) ⌝ }
+fn b2(word: PackedWord, b: u16) -> PackedStep
+    ensures { λ r. ⌜ r ≡ packedRow 0 0 word 0 (Stage.B2 b) ⌝ }
 {
     let bottom = below(b);
-    leaves(Word { bottom, ..word }, Next::Going(Stage::B3 { b }))
+    leaves(PackedWord { bottom, ..word }, Next::Going(Stage::B3 { b }))
 }
 
 // Load slot b−1.
-fn b3(word: Word, x: u16, b: u16) -> Stepped
-    ensures { λ r. ⌜ r ≡ rowOf 0 0 word x (Stage.B3 b) ⌝ }
+fn b3(word: PackedWord, x: u16, b: u16) -> PackedStep
+    ensures { λ r. ⌜ r ≡ packedRow 0 0 word x (Stage.B3 b) ⌝ }
 {
     leaves(word, Next::Going(Stage::B4 { b, x }))
 }
 
 // Load age as (t, g); b−1 > t: return the node.
-fn b4(word: Word, b: u16, x: u16) -> Stepped
-    ensures { λ r. ⌜ r ≡ rowOf 0 0 word 0 (Stage.B4 b x) ⌝ }
+fn b4(word: PackedWord, b: u16, x: u16) -> PackedStep
+    ensures { λ r. ⌜ r ≡ packedRow 0 0 word 0 (Stage.B4 b x) ⌝ }
 {
-    let t = word.top;
-    let g = word.tag;
+    let age = word.age;
+    let t = age.top();
+    let g = age.tag();
     if t < below(b) {
         leaves(word, Next::Node(x))
     } else {
@@ -170,10 +168,10 @@ fn b4(word: Word, b: u16, x: u16) -> Stepped
 }
 
 // Store 0 in bottom; b−1 = t: go to B6; else B7.
-fn b5(word: Word, b: u16, x: u16, t: u16, g: u16) -> Stepped
-    ensures { λ r. ⌜ r ≡ rowOf 0 0 word 0 (Stage.B5 b x t g) ⌝ }
+fn b5(word: PackedWord, b: u16, x: u16, t: u16, g: u16) -> PackedStep
+    ensures { λ r. ⌜ r ≡ packedRow 0 0 word 0 (Stage.B5 b x t g) ⌝ }
 {
-    let emptied = Word { bottom: 0, ..word };
+    let emptied = PackedWord { bottom: 0, ..word };
     if below(b) == t {
         leaves(emptied, Next::Going(Stage::B6 { b, x, t, g }))
     } else {
@@ -182,29 +180,29 @@ fn b5(word: Word, b: u16, x: u16, t: u16, g: u16) -> Stepped
 }
 
 // If age is still (t, g), age becomes (0, next g); changed: return the node; else B7.
-fn b6(width: u8, word: Word, b: u16, x: u16, t: u16, g: u16) -> Stepped
+fn b6(width: u8, word: PackedWord, b: u16, x: u16, t: u16, g: u16) -> PackedStep
     requires { ⌜ width ≤ 16 ⌝ }
-    ensures { λ r. ⌜ r ≡ rowOf width 0 word 0 (Stage.B6 b x t g) ⌝ }
+    ensures { λ r. ⌜ r ≡ packedRow width 0 word 0 (Stage.B6 b x t g) ⌝ }
 {
     if same_age(word, t, g) {
-        reset(width, word, g, Next::Node(x))
+        reset(width, word, t, g, Next::Node(x))
     } else {
         leaves(word, Next::Going(Stage::B7 { b, x, t, g }))
     }
 }
 
 // Store (0, next g) in age; return NIL.
-fn b7(width: u8, word: Word, g: u16) -> Stepped
+fn b7(width: u8, word: PackedWord, t: u16, g: u16) -> PackedStep
     requires { ⌜ width ≤ 16 ⌝ }
-    ensures { λ r. ⌜ r ≡ resets width word g Next.Nil ⌝ }
+    ensures { λ r. ⌜ r ≡ packedResets width word (packed t g) Next.Nil ⌝ }
 {
-    reset(width, word, g, Next::Nil)
+    reset(width, word, t, g, Next::Nil)
 }
 
 // The row of a stage that is in range.
-pub(crate) fn row(width: u8, size: u8, word: Word, loaded: u16, stage: Stage) -> Stepped
-    requires { ⌜ InRange width size size word stage ⌝ }
-    ensures { λ r. ⌜ r ≡ rowOf width size word loaded stage ⌝ }
+pub(crate) fn row(width: u8, size: u8, word: PackedWord, loaded: u16, stage: Stage) -> PackedStep
+    requires { ⌜ InRange width size size (unpacked word) stage ⌝ }
+    ensures { λ r. ⌜ r ≡ packedRow width size word loaded stage ⌝ }
 {
     match stage {
         Stage::Idle => leaves(word, Next::Going(Stage::Idle)),
@@ -221,6 +219,6 @@ pub(crate) fn row(width: u8, size: u8, word: Word, loaded: u16, stage: Stage) ->
         Stage::B4 { b, x } => b4(word, b, x),
         Stage::B5 { b, x, t, g } => b5(word, b, x, t, g),
         Stage::B6 { b, x, t, g } => b6(width, word, b, x, t, g),
-        Stage::B7 { g, .. } => b7(width, word, g),
+        Stage::B7 { t, g, .. } => b7(width, word, t, g),
     }
 }

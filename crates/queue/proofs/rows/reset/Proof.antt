@@ -4,7 +4,7 @@ use Rattle.queue.proofs.rows.reset.Statement.{statement}
 use Rattle.queue.proofs.rows.reset.Tie as tie
 
 returns : tie.Need-returns
-returns c = rw (c .next-tag .ensures)
+returns c = rw (c .next-age .ensures, c .before .of .ensures)
 
 pub reset-spec : {M : Type 1} → statement M
-reset-spec = tie.close (tie.spec (λ c κs. search needs) returns)
+reset-spec = tie.close (tie.spec (λ c κs. search needs) (λ c κs. search needs) returns)

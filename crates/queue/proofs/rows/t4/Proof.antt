@@ -5,7 +5,7 @@ use Rattle.queue.proofs.rows.t4.Statement.{statement}
 use Rattle.queue.proofs.rows.t4.Tie as tie
 
 returns : tie.Need-returns
-returns c = rw (sym (c .before .before .same-age .ensures) ∙ c .before .if1 .taken, c .leaves .ensures)
+returns c = rw (sym (c .before .before .before .same-age .ensures) ∙ c .before .before .if1 .taken, c .leaves .ensures, c .before .of .ensures)
 
 returns-2 : tie.Need-returns-2
 returns-2 c = rw (sym (c .before .before .same-age .ensures) ∙ c .before .if1 .left, c .leaves2 .ensures)
@@ -13,4 +13,11 @@ returns-2 c = rw (sym (c .before .before .same-age .ensures) ∙ c .before .if1 
 pub t4-spec : {M : Type 1} → statement M
 t4-spec =
     tie.close
-    (tie.spec (λ c κs. search needs) (λ c. search needs) (λ c κs. search needs) (λ c κs. search needs) returns returns-2)
+    (tie.spec
+    (λ c κs. search needs)
+    (λ c. search needs)
+    (λ c κs. search needs)
+    (λ c κs. search needs)
+    (λ c κs. search needs)
+    returns
+    returns-2)
