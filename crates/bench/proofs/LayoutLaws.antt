@@ -14,14 +14,17 @@ use Rattle.base.proofs.Lists.{listOf-length, listOf-getD}
 use Rattle.log.specs.declared.Entry.{Entry}
 use Rattle.runfile.specs.declared.Call.{Call}
 use Rattle.word.specs.Stages.{isIdle}
-use Rattle.queue.specs.Step.{stored, steppedOn, StepOn}
+use Rattle.queue.specs.Step.{stored, steppedOn}
+use Rattle.queue.specs.Packed.{unpackedStep, StepPacked}
+use Rattle.queue.proofs.PackedLaws.{step-unpacks}
 use Rattle.word.specs.declared.Stage.{Stage}
 use Rattle.word.specs.declared.Stage.the-variants.{Idle}
 use Rattle.runfile.specs.declared.Call.the-variants.{Push}
 use Rattle.queue.specs.declared.Stepped.{Stepped}
+use Rattle.queue.specs.declared.PackedStep.{PackedStep}
+use Rattle.queue.specs.declared.PackedWord.{PackedWord}
 use Rattle.queue.specs.declared.Store.{Store}
 use Rattle.queue.specs.declared.Store.the-variants as store
-use Rattle.word.specs.declared.Word.{Word}
 use Rattle.bench.specs.inner.Layout.{queueIn, processIn, benchIn, slotsOf, slotsIn, stateIn, StepsIn, putEntries, Becomes, Moves, movedBench}
 use Rattle.runs.specs.inner.Counted.{aim, Aimed, Counted}
 use Rattle.runs.specs.Moment.{queueOf, ended, goneRound, Nothing, ends}
@@ -112,7 +115,7 @@ module _ (C q : ℕ) (flat row : List ℕ) (whole : length flat ≡ 512) (small 
           slots-get C changed i l ∙ other i l p ∙ sym (slots-get C flat i l) ∙ sym (getD-set-other (slotsIn C flat) q i row [] p)
 
 -- the program's step on its part of the row
-module _ (W C : ℕ) (w : Word) (flat : List ℕ) (q : ℕ) (z : Stage) (r : Stepped) where
+module _ (W C : ℕ) (w : PackedWord) (flat : List ℕ) (q : ℕ) (z : Stage) (r : PackedStep) where
   pub on-same : (i : ℕ) (flat′ : List ℕ) → q ≡ i → StepsIn W C w flat q z r flat′ → StepsIn W C w flat i z r flat′
   on-same i flat′ e h = subst (λ (j : ℕ). StepsIn W C w flat j z r flat′) e h
 
@@ -120,15 +123,16 @@ module _ (W C : ℕ) (w : Word) (flat : List ℕ) (q : ℕ) (z : Stage) (r : Ste
   stored-length xs store.Nothing = refl
   stored-length xs (store.Slot at node) = length-set xs at node
 
-  pub on-part : (row : List ℕ) → length flat ≡ 512 → q < 8 → C ≤ 64 → StepOn W C w (take (64 * q + C - 64 * q) (drop (64 * q) flat)) z r row
+  pub on-part : (row : List ℕ) → length flat ≡ 512 → q < 8 → C ≤ 64 → StepPacked W C w (take (64 * q + C - 64 * q) (drop (64 * q) flat)) z r row
       → StepsIn W C w flat q z r (putMid (64 * q) (64 * q + C - 64 * q) flat row)
   on-part row whole h small d =
       let e : 64 * q + C - 64 * q ≡ C = omega arith in
-      let t : StepOn W C w (slotsOf C flat q) z r row = subst (λ (n : ℕ). StepOn W C w (take n (drop (64 * q) flat)) z r row) e d in
-      let l = stored-length (slotsOf C flat q) (steppedOn W C w (slotsOf C flat q) z .store) in
+      let t : StepPacked W C w (slotsOf C flat q) z r row = subst (λ (n : ℕ). StepPacked W C w (take n (drop (64 * q) flat)) z r row) e d in
+      let k : row ≡ stored (slotsOf C flat q) (r .store) = t .unpacks .kept ∙ ap (λ (o : Stepped). stored (slotsOf C flat q) (o .store)) (sym (t .unpacks .stepped)) in
+      let l = stored-length (slotsOf C flat q) (r .store) in
       record {
         stepped = rw (slots-get C flat q h) (t .stepped);
-        slots = rw (e, slots-get C flat q h) (slots-put C q flat row whole small h (ap length (t .kept) ∙ l ∙ slots-length C flat q (omega arith)) ∙ ap (set (slotsIn C flat) q) (t .kept));
+        slots = rw (e, slots-get C flat q h) (slots-put C q flat row whole small h (ap length k ∙ l ∙ slots-length C flat q (omega arith)) ∙ ap (set (slotsIn C flat) q) k);
       }
 
 -- entries put into a log, in two parts
@@ -140,7 +144,7 @@ put-append n (e ∷ es) ds log =
 
 -- what an array of the program has past its end: all 0, and the first of each enum
 abbrev pub freshHeld : HeldQueue
-freshHeld = record { word = record { bottom = 0; top = 0; tag = 0 }; resets = 0 }
+freshHeld = record { word = record { bottom = 0; age = record { word = 0 } }; resets = 0 }
 
 abbrev pub nobodyHeld : HeldProcess
 nobodyHeld = record { stage = Idle; call = Push 0; next = 0; stop = 0; start = 0; b2 = 0; «resets_at_t1» = 0 }
@@ -196,7 +200,7 @@ module _ (calls : List Call) (p : ℕ) (b : HeldBench) (w r : HeldProcess) (e : 
         record { bench = rw (← now, i) (h .bench); count = rw (← now, i) (h .count); slots = rw (← now, i) (h .slots); bytes = rw (← now, i) (h .bytes) }
 
 -- the counts grow by at most 1, and the bench with what was changed is the bench after the step
-module _ (W C p n entries : ℕ) (r : Process) (before : Queue) (owner : Process) (flat log : List ℕ) (m : Moved) (flat′ log′ : List ℕ)
+module _ (W C p n entries : ℕ) (r : Process) (before : HeldQueue) (owner : Process) (flat log : List ℕ) (m : Moved) (flat′ log′ : List ℕ)
     (v : Moves W C p n entries r before owner flat log m flat′ log′) where
   pub moved-more : m .more ≤ 1
   moved-more = omega (arith, v .more, entries-few (v .over))
@@ -206,7 +210,7 @@ module _ (W C p n entries : ℕ) (r : Process) (before : Queue) (owner : Process
 
 -- what the program's parts of a step of a process come to: before and owner are the records of its queue and of the queue's owner
 module _ (W C p : ℕ) (r : HeldProcess) (b : HeldBench) (flat log : List ℕ) (q : ℕ) (before : HeldQueue) (owner : HeldProcess) (m : Moved) (flat′ log′ : List ℕ)
-    (v : Moves W C p (b .steps) (b .entries) (processIn r) (queueIn before) (processIn owner) flat log m flat′ log′) (e : q ≡ queueOf p (r .call))
+    (v : Moves W C p (b .steps) (b .entries) (processIn r) before (processIn owner) flat log m flat′ log′) (e : q ≡ queueOf p (r .call))
     (f : before ≡ getD (b .queues) q freshHeld) (g : owner ≡ getD (b .processes) q nobodyHeld) where
   before-is : queueIn before ≡ queueAt (benchIn b) q
   before-is = ap queueIn f ∙ sym (queue-is b q)
@@ -214,19 +218,22 @@ module _ (W C p : ℕ) (r : HeldProcess) (b : HeldBench) (flat log : List ℕ) (
   owner-is : processIn owner ≡ processAt (benchIn b) q
   owner-is = ap processIn g ∙ sym (process-is b q)
 
-  stepped : StepsIn W C (queueAt (benchIn b) q .word) flat q (r .stage) (v .step) flat′
+  here : StepsIn W C (before .word) flat q (r .stage) (v .step) flat′
+  here = on-same W C (before .word) flat (queueOf p (r .call)) (r .stage) (v .step) q flat′ (sym e) (v .slots)
+
+  stepped : unpackedStep (v .step) ≡ steppedOn W C (queueAt (benchIn b) q .word) (getD (slotsIn C flat) q []) (r .stage)
   stepped =
-      subst (λ (x : Queue). StepsIn W C (x .word) flat q (r .stage) (v .step) flat′) before-is
-      (on-same W C (before .word) flat (queueOf p (r .call)) (r .stage) (v .step) q flat′ (sym e) (v .slots))
+      ap unpackedStep (here .stepped) ∙ step-unpacks W C (before .word) (getD (slotsIn C flat) q []) (r .stage)
+      ∙ ap (λ (x : Queue). steppedOn W C (x .word) (getD (slotsIn C flat) q []) (r .stage)) before-is
 
   over-is : v .over ≡ ended p (b .steps) (processIn r) (processAt (benchIn b) q) (queueAt (benchIn b) q .word .top) (v .step .next)
   over-is =
       v .ends ∙ ap (λ (x : Queue). ended p (b .steps) (processIn r) (processIn owner) (x .word .top) (v .step .next)) before-is
       ∙ ap (λ (x : Process). ended p (b .steps) (processIn r) x (queueAt (benchIn b) q .word .top) (v .step .next)) owner-is
 
-  after-is : benchIn (movedBench b p q m) ≡ benchAfter (benchIn b) p q (processIn r) (v .step)
+  after-is : benchIn (movedBench b p q m) ≡ benchAfter (benchIn b) p q (processIn r) (unpackedStep (v .step))
   after-is = λ i. record {
-    queues = (map-set queueIn (b .queues) q (m .queue) ∙ ap (set (map queueIn (b .queues)) q) (v .queue ∙ ap (λ (x : Queue). queueAfter x (v .step)) before-is)) i;
+    queues = (map-set queueIn (b .queues) q (m .queue) ∙ ap (set (map queueIn (b .queues)) q) (v .queue ∙ ap (λ (x : Queue). queueAfter x (unpackedStep (v .step))) before-is)) i;
     processes = (map-set processIn (b .processes) p (m .process)
         ∙ ap (set (map processIn (b .processes)) p) (v .process ∙ ap (λ (x : Queue). processAfter (b .steps) (x .resets) (processIn r) (v .step .next)) before-is)) i;
     steps = b .steps + 1;
@@ -237,8 +244,8 @@ module _ (W C p : ℕ) (r : HeldProcess) (b : HeldBench) (flat log : List ℕ) (
   pub moves-become : (b′ : HeldBench) → b′ ≡ movedBench b p q m → Becomes C (b .entries) log (act W C p (processIn r) (stateIn C b flat)) b′ flat′ log′
   unfolding act
   moves-become b′ d = record {
-    bench = rw (← e, ← stepped .stepped) (ap benchIn d ∙ after-is);
-    count = rw (← e, ← stepped .stepped, ← over-is) (ap (λ (x : HeldBench). x .entries) d ∙ ap (λ (k : ℕ). b .entries + k) (v .more));
-    slots = rw (← e) (stepped .slots);
-    bytes = rw (← e, ← stepped .stepped, ← over-is) (v .bytes);
+    bench = rw (← e, ← stepped) (ap benchIn d ∙ after-is);
+    count = rw (← e, ← stepped, ← over-is) (ap (λ (x : HeldBench). x .entries) d ∙ ap (λ (k : ℕ). b .entries + k) (v .more));
+    slots = rw (← e, ← stepped) (here .slots);
+    bytes = rw (← e, ← stepped, ← over-is) (v .bytes);
   }

@@ -9,6 +9,7 @@ use lib.Seq.{take-take, take-all, take-suc-set}
 use borrow.Author.Tests.{lt-ltb, le-ltb}
 use Rattle.base.specs.Lists.{listOf}
 use Rattle.word.specs.declared.Word.{Word}
+use Rattle.queue.specs.Packed.{unpacked}
 use Rattle.runfile.specs.Check.{sum}
 use Rattle.runfile.specs.File.{firstLengths, callsBefore}
 use Rattle.runs.specs.State.{Queue}
@@ -61,5 +62,5 @@ module _ (f : ℕ → ℕ) where
 
 -- the word of a queue in the program's array is that of the queue that it stands for
 pub held-row : (P : ℕ) (b : HeldBench) (slots : List (List ℕ)) (k : ℕ)
-    → inTable P (getD (b .queues) (k / 67) freshHeld .word) slots (k / 67) (k % 67) ≡ tableAt P (benchIn b) slots k
+    → inTable P (unpacked (getD (b .queues) (k / 67) freshHeld .word)) slots (k / 67) (k % 67) ≡ tableAt P (benchIn b) slots k
 held-row P b slots k = ap (λ (m : Queue). inTable P (m .word) slots (k / 67) (k % 67)) (sym (queue-is b (k / 67)))

@@ -15,11 +15,11 @@ mod table; // the final table
 mod turn; // one step of a run
 
 use log::Entry;
+use queue::PackedWord;
 use runfile::Call;
 use runfile::Reading;
 use runfile::Shape;
 use word::Stage;
-use word::Word;
 
 // The steps of the closing at most: eight calls are half-done, and each has at most six steps left.
 const CLOSING_STEPS: u16 = 48;
@@ -34,9 +34,9 @@ const TABLE_ROW: usize = 3 + ROW;
 
 pub const TABLE_SIZE: usize = 8 * TABLE_ROW;
 
-// A queue of the bench: its control word, and how often it was reset.
+// A queue of the bench: its control word, with top and tag in one word, and how often it was reset.
 pub struct Queue {
-    pub word: Word,
+    pub word: PackedWord,
     pub resets: u16,
 }
 

@@ -9,18 +9,18 @@ ghost use Rattle.runs.specs.State.{waiting as waitingOf, fresh as freshOf, scri
 use crate::Bench;
 use crate::Process;
 use crate::Queue;
+use queue::PackedAge;
+use queue::PackedWord;
 use runfile::Call;
 use word::Stage;
-use word::Word;
 
 pub(crate) fn fresh() -> Queue
     ensures { λ r. ⌜ queueIn r ≡ freshOf ⌝ }
 {
     Queue {
-        word: Word {
+        word: PackedWord {
             bottom: 0,
-            top: 0,
-            tag: 0,
+            age: PackedAge { word: 0 },
         },
         resets: 0,
     }

@@ -4,11 +4,13 @@ ghost use Prim.Native.Nat.{_≤_, _<_};
 ghost use lib.ListN.{length, getD};
 ghost use Rattle.base.specs.Lists.{listOf};
 ghost use Rattle.bench.specs.inner.Layout.{benchIn, allSlots, slotsOf, slotsIn};
+ghost use Rattle.queue.specs.Packed.{unpacked};
 ghost use Rattle.runs.specs.Run.{tableRow, inTable, tableAt, tableSize};
 use crate::Bench;
 use crate::ROW;
 use crate::TABLE_ROW;
 use crate::TABLE_SIZE;
+use queue::PackedWord;
 use word::Word;
 
 // Number i of a queue's row: bottom, top, tag, the slots, and 0 past them.
@@ -34,12 +36,12 @@ fn in_row(word: Word, size: u8, slots: &[u16], q: usize, i: usize) -> u16
 }
 
 // Number i of queue q's row in the table; a queue that no process owns has 0 there.
-fn in_table(processes: u8, size: u8, word: Word, slots: &[u16], q: usize, i: usize) -> u16
+fn in_table(processes: u8, size: u8, word: PackedWord, slots: &[u16], q: usize, i: usize) -> u16
     requires { ⌜ (length (now slots) ≡ allSlots) × (size ≤ 64) × (processes ≤ 8) ⌝ }
-    ensures { λ r. ⌜ r ≡ inTable processes word (slotsIn size (now (slots .entry))) q i ⌝ }
+    ensures { λ r. ⌜ r ≡ inTable processes (unpacked word) (slotsIn size (now (slots .entry))) q i ⌝ }
 {
     if q < processes as usize {
-        in_row(word, size, slots, q, i)
+        in_row(word.unpacked(), size, slots, q, i)
     } else {
         0
     }

@@ -5,6 +5,7 @@ ghost use Prim.Native.Nat.{_≤_, _<_};
 ghost use lib.ListN.{length, getD};
 ghost use Rattle.runs.specs.Moment.{queueOf};
 ghost use Rattle.queue.specs.Step.{stageAfter};
+ghost use Rattle.queue.specs.Packed.{unpackedStep};
 ghost use Rattle.bench.specs.inner.Layout.{allSlots, queueIn, processIn, endedIn, putEntries, StepsIn, Moves};
 ghost use Rattle.runfile.specs.File.{firstCalls};
 ghost use Rattle.runs.specs.Turn.{firstStage, begun as begunOf, processAfter, queueAfter, isRefused, entriesIn, ready as readyOf};
@@ -14,11 +15,11 @@ use crate::Queue;
 use crate::ROW;
 use crate::moment;
 use queue::Next;
-use queue::Stepped;
+use queue::PackedStep;
+use queue::PackedWord;
 use runfile::Call;
 use runfile::Shape;
 use word::Stage;
-use word::Word;
 
 fn first_stage(call: Call) -> Stage
     ensures { λ r. ⌜ r ≡ firstStage call ⌝ }
@@ -91,9 +92,9 @@ fn process_after(n: u16, resets: u16, of: Process, next: Next) -> Process
     }
 }
 
-fn queue_after(before: Queue, stepped: Stepped) -> Queue
+fn queue_after(before: Queue, stepped: PackedStep) -> Queue
     requires { ⌜ before .resets ≤ 8191 ⌝ }
-    ensures { λ r. ⌜ queueIn r ≡ queueAfter (queueIn before) stepped ⌝ }
+    ensures { λ r. ⌜ queueIn r ≡ queueAfter (queueIn before) (unpackedStep stepped) ⌝ }
 {
     let word = stepped.word;
     let again = before.resets + 1;
@@ -104,13 +105,20 @@ fn queue_after(before: Queue, stepped: Stepped) -> Queue
 }
 
 // The step of a queue on its part of the row of slots.
-fn step_slots(width: u8, size: u8, word: Word, slots: &mut [u16], q: u8, stage: Stage) -> Stepped
+fn step_slots(
+    width: u8,
+    size: u8,
+    word: PackedWord,
+    slots: &mut [u16],
+    q: u8,
+    stage: Stage,
+) -> PackedStep
     requires { ⌜ (length (now slots) ≡ allSlots) × (q < 8) × (size ≤ 64) ⌝ }
     ensures { λ r. ⌜ StepsIn width size word (now (slots .entry)) q stage r (now (slots .exit)) ⌝ }
 {
     let from = ROW * (q as usize);
     let to = from + size as usize;
-    queue::step_on(width, size, word, &mut slots[from..to], stage)
+    queue::step_packed(width, size, word, &mut slots[from..to], stage)
 }
 
 fn count(over: Ended) -> u16
@@ -155,15 +163,16 @@ pub(crate) fn moves(
     owner: Process,
 ) -> Moved
     requires { ⌜ (n ≤ 8191) × (of .b2 ≤ 8191) × (owner .b2 ≤ 8191) × (before .resets ≤ 8191) × (length (now slots) ≡ allSlots) × (queueOf p (of .call) < 8) × (shape .size ≤ 64) ⌝ }
-    ensures { λ r. ⌜ Moves (shape .width) (shape .size) p n entries (processIn of) (queueIn before) (processIn owner) (now (slots .entry)) (now (log .entry)) r (now (slots .exit)) (now (log .exit)) ⌝ }
+    ensures { λ r. ⌜ Moves (shape .width) (shape .size) p n entries (processIn of) before (processIn owner) (now (slots .entry)) (now (log .entry)) r (now (slots .exit)) (now (log .exit)) ⌝ }
 {
     let stage = of.stage;
     let call = of.call;
     let word = before.word;
+    let age = word.age;
     let q = moment::queue_of(p, call);
     let stepped = step_slots(shape.width, shape.size, word, slots, q, stage);
     let next = stepped.next;
-    let over = moment::ended(p, n, of, owner, word.top, next);
+    let over = moment::ended(p, n, of, owner, age.top(), next);
     keep(log, entries, over);
     let queue = queue_after(before, stepped);
     let process = process_after(n, before.resets, of, next);

@@ -1,4 +1,5 @@
--- How a state lies in the program: in its structs, all slots in one row of 64 for each of eight queues, and the log as its bytes.
+-- How a state lies in the program: in its structs, with top and tag in one word, all slots in one row of 64 for each of eight queues, and the log as its
+-- bytes.
 use Prim.Native.Nat.{ℕ, suc, _+_, _*_, _≤_, _<_}
 use mathlib.Core.Path.{_≡_}
 use mathlib.Core.Bool.{_||_}
@@ -9,10 +10,11 @@ use Rattle.base.specs.Lists.{listOf}
 use Rattle.log.specs.Decode.{logLength}
 use Rattle.log.specs.Encode.{entryBytes}
 use Rattle.log.specs.declared.Entry.{Entry}
-use Rattle.queue.specs.Step.{stored, steppedOn}
-use Rattle.queue.specs.declared.Stepped.{Stepped}
+use Rattle.queue.specs.Step.{stored}
+use Rattle.queue.specs.Packed.{unpacked, unpackedStep, topOf, packedOn}
+use Rattle.queue.specs.declared.PackedStep.{PackedStep}
+use Rattle.queue.specs.declared.PackedWord.{PackedWord}
 use Rattle.word.specs.declared.Stage.{Stage}
-use Rattle.word.specs.declared.Word.{Word}
 use Rattle.runfile.specs.File.{mostSize}
 use Rattle.runfile.specs.declared.Call.{Call}
 use Rattle.runfile.specs.declared.Shape.{Shape}
@@ -29,7 +31,7 @@ use Rattle.bench.specs.declared.turn.Moved.{Moved}
 
 -- what the program's structs stand for
 abbrev pub queueIn : HeldQueue → Queue
-queueIn m = record { word = m .word; resets = m .resets }
+queueIn m = record { word = unpacked (m .word); resets = m .resets }
 
 abbrev pub processIn : HeldProcess → Process
 processIn r = record {
@@ -67,9 +69,9 @@ abbrev pub stateIn : ℕ → HeldBench → List ℕ → State
 stateIn C b flat = record { bench = benchIn b; slots = slotsIn C flat; log = [] }
 
 -- the step of queue q on its slots in the row
-pub record StepsIn (W C : ℕ) (w : Word) (flat : List ℕ) (q : ℕ) (z : Stage) (answer : Stepped) (flat′ : List ℕ) : Type 0 where
-  pub stepped : answer ≡ steppedOn W C w (getD (slotsIn C flat) q []) z
-  pub slots : slotsIn C flat′ ≡ set (slotsIn C flat) q (stored (getD (slotsIn C flat) q []) (steppedOn W C w (getD (slotsIn C flat) q []) z .store))
+pub record StepsIn (W C : ℕ) (w : PackedWord) (flat : List ℕ) (q : ℕ) (z : Stage) (answer : PackedStep) (flat′ : List ℕ) : Type 0 where
+  pub stepped : answer ≡ packedOn W C w (getD (slotsIn C flat) q []) z
+  pub slots : slotsIn C flat′ ≡ set (slotsIn C flat) q (stored (getD (slotsIn C flat) q []) (answer .store))
 
 -- the bytes of a log with entries put in from entry n on
 abbrev pub putEntries : ℕ → List Entry → List ℕ → List ℕ
@@ -100,13 +102,13 @@ pub record ToClose (shape : Shape) (b : HeldBench) (flat : List ℕ) : Type 0 wh
   pub processes : shape .processes ≤ 8
 
 -- what step n of process p changes: r, before and owner are the records of the process, of its call's queue and of the queue's owner
-pub record Moves (W C p n entries : ℕ) (r : Process) (before : Queue) (owner : Process) (flat log : List ℕ) (m : Moved) (flat′ log′ : List ℕ) : Type 0 where
-  pub step : Stepped
+pub record Moves (W C p n entries : ℕ) (r : Process) (before : HeldQueue) (owner : Process) (flat log : List ℕ) (m : Moved) (flat′ log′ : List ℕ) : Type 0 where
+  pub step : PackedStep
   pub over : Ended
   pub slots : StepsIn W C (before .word) flat (queueOf p (r .call)) (r .stage) step flat′
-  pub ends : over ≡ ended p n r owner (before .word .top) (step .next)
+  pub ends : over ≡ ended p n r owner (topOf (before .word .age .word)) (step .next)
   pub bytes : log′ ≡ putEntries entries (entriesIn over) log
-  pub queue : queueIn (m .queue) ≡ queueAfter before step
+  pub queue : queueIn (m .queue) ≡ queueAfter (queueIn before) (unpackedStep step)
   pub process : processIn (m .process) ≡ processAfter n (before .resets) r (step .next)
   pub more : m .more ≡ length (entriesIn over)
   pub gone : m .gone ≡ goneRound r (before .resets) (step .next)

@@ -5,7 +5,7 @@ use Rattle.bench.proofs.turn.step_slots.Statement.{statement}
 use Rattle.bench.proofs.turn.step_slots.Tie as tie
 
 returns : tie.Need-returns
-returns c = let s = c .before .before .before .before .before in on-part _ _ _ _ _ _ _ _ (s .pre .0) (s .pre .1) (s .pre .2) (c .before .before .step-on .ensures)
+returns c = let s = c .before .before .before .before .before in on-part _ _ _ _ _ _ _ _ (s .pre .0) (s .pre .1) (s .pre .2) (c .before .before .step-packed .ensures)
 
 pub step-slots-spec : {M : Type 1} → statement M
 step-slots-spec =
