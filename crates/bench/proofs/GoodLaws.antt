@@ -23,6 +23,7 @@ use Rattle.runfile.specs.declared.Shape.{Shape}
 use Rattle.runs.proofs.ClosingLaws.{schedule-steps}
 use Rattle.runs.proofs.EntriesLaws.{entries-most}
 use Rattle.bench.proofs.FinishLaws.{finished-gives}
+use Rattle.bench.proofs.LayoutLaws.{row-in}
 use Rattle.runs.proofs.Induction.{play-keeps, closed-keeps}
 use Rattle.bench.specs.declared.Bench.{Bench as HeldBench}
 use Rattle.bench.specs.inner.Layout.{benchIn, slotsOf, slotsIn, stateIn, Becomes, ToPlay, ToClose}
@@ -115,7 +116,7 @@ slots-start : (C : ℕ) → C ≤ 64 → slotsIn C (replicate 512 0) ≡ replica
 slots-start C h = λ i. row 0 (omega arith) i ∷ row 1 (omega arith) i ∷ row 2 (omega arith) i ∷ row 3 (omega arith) i ∷ row 4 (omega arith) i ∷ row 5 (omega arith) i ∷ row 6 (omega arith) i ∷ row 7 (omega arith) i ∷ []
   where
     row : (q : ℕ) → q < 8 → slotsOf C (replicate 512 0) q ≡ replicate C 0
-    row q k = zeros C (64 * q) 512 (omega arith)
+    row q k = zeros C (C * q) 512 (row-in C q h k)
 
 -- of the bytes of a good file
 module _ (s : List ℕ) (bytes : Bytes s) (shape : Shape) (e : readingOf (fileOf s) ≡ Good shape) where

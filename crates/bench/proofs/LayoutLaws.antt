@@ -3,6 +3,7 @@ use Prim.Native.Nat.{ℕ, zero, suc, _+_, _-_, _*_, _≤_, _<_}
 use mathlib.Core.Path.{_≡_, refl, sym, ap, _∙_, subst}
 use mathlib.Core.Bool.{true, false, _||_}
 use mathlib.Core.List.{List, [], _∷_, _++_, map}
+use native.Mathlib.Nat.{mul-suc, mul-le-mul-left}
 use native.Mathlib.Omega.{arith}
 use native.Mathlib.Decide.{decLt, ℕ-discrete}
 use lib.ListN.{length, getD, take, drop, set, length-set, length-drop, length-map, List·getD-append, List·getD-map}
@@ -25,7 +26,7 @@ use Rattle.queue.specs.declared.PackedStep.{PackedStep}
 use Rattle.queue.specs.declared.PackedWord.{PackedWord}
 use Rattle.queue.specs.declared.Store.{Store}
 use Rattle.queue.specs.declared.Store.the-variants as store
-use Rattle.bench.specs.inner.Layout.{queueIn, processIn, benchIn, slotsOf, slotsIn, stateIn, StepsIn, putEntries, Becomes, Moves, movedBench}
+use Rattle.bench.specs.inner.Layout.{queueIn, freshHeld, processIn, benchIn, slotsOf, slotsIn, stateIn, StepsIn, putEntries, Becomes, Moves, movedBench}
 use Rattle.runs.specs.inner.Counted.{aim, Aimed, Counted}
 use Rattle.runs.specs.Moment.{queueOf, ended, goneRound, Nothing, ends}
 use Rattle.runs.specs.State.{Process, Queue, queueAt, processAt}
@@ -62,44 +63,53 @@ module _ (xs ys : List ℕ) (a k : ℕ) (h : a + k ≤ length xs) (e : length ys
   put-length : length (putMid a k xs ys) ≡ length xs
   put-length = same-len-mid a k xs ys (e ∙ sym (length-take-le k (drop a xs) (simp length-drop (omega arith))))
 
--- the slots of a queue
+-- the slots of a queue end where those of the next begin, and all lie in the row
+rows-apart : (C i q : ℕ) → i < q → C * i + C ≤ C * q
+rows-apart C i q h = omega (arith, mul-suc C i, mul-le-mul-left {m = suc i} {n = q} C (omega arith))
+
+pub row-in : (C q : ℕ) → C ≤ 64 → q < 8 → C * q + C ≤ 512
+row-in C q small h = omega (arith, rows-apart C q 8 h)
+
 pub slots-get : (C : ℕ) (flat : List ℕ) (q : ℕ) → q < 8 → getD (slotsIn C flat) q [] ≡ slotsOf C flat q
 slots-get C flat q h = listOf-getD 8 (slotsOf C flat) [] q h
 
-pub slots-length : (C : ℕ) (flat : List ℕ) (q : ℕ) → 64 * q + C ≤ length flat → length (slotsOf C flat q) ≡ C
-slots-length C flat q h = length-take-le C (drop (64 * q) flat) (simp length-drop (omega arith))
+pub slots-length : (C : ℕ) (flat : List ℕ) (q : ℕ) → C * q + C ≤ length flat → length (slotsOf C flat q) ≡ C
+slots-length C flat q h = length-take-le C (drop (C * q) flat) (simp length-drop (omega arith))
 
-pub slot : (C : ℕ) (flat : List ℕ) (i j : ℕ) → j < C → getD (slotsOf C flat i) j 0 ≡ getD flat (64 * i + j) 0
-slot C flat i j h = getD-take C (drop (64 * i) flat) j 0 h ∙ getD-drop (64 * i) flat j 0
+pub slot : (C : ℕ) (flat : List ℕ) (i j : ℕ) → j < C → getD (slotsOf C flat i) j 0 ≡ getD flat (C * i + j) 0
+slot C flat i j h = getD-take C (drop (C * i) flat) j 0 h ∙ getD-drop (C * i) flat j 0
 
 module _ (C q : ℕ) (flat row : List ℕ) (whole : length flat ≡ 512) (small : C ≤ 64) (h : q < 8) (e : length row ≡ C) where
   abbrev changed : List ℕ
-  changed = putMid (64 * q) C flat row
+  changed = putMid (C * q) C flat row
 
-  same : length changed ≡ 512
-  same = put-length flat row (64 * q) C (omega arith) e ∙ whole
+  fits : (i : ℕ) → i < 8 → C * i + C ≤ length flat
+  fits i l = omega (arith, row-in C i small l)
+
+  same : length changed ≡ length flat
+  same = put-length flat row (C * q) C (fits q h) e
 
   mine : slotsOf C changed q ≡ row
   mine =
-      ext-getD 0 (slotsOf C changed q) row (slots-length C changed q (omega (arith, same)) ∙ sym e)
-      (λ j l. slot C changed q j (omega (arith, slots-length C changed q (omega (arith, same))))
-      ∙ put-in flat row (64 * q) C (omega arith) e j (omega (arith, slots-length C changed q (omega (arith, same)))))
+      let m = slots-length C changed q (omega (arith, same, fits q h)) in
+      ext-getD 0 (slotsOf C changed q) row (m ∙ sym e)
+      (λ j l. slot C changed q j (omega arith) ∙ put-in flat row (C * q) C (fits q h) e j (omega arith))
 
-  at : (i j : ℕ) → i < 8 → (i ≡ q → ⊥) → j < C → getD changed (64 * i + j) 0 ≡ getD flat (64 * i + j) 0
-  at i j l d m = split (decLt i q)
+  at : (i j : ℕ) → (i ≡ q → ⊥) → j < C → getD changed (C * i + j) 0 ≡ getD flat (C * i + j) 0
+  at i j d m = split (decLt i q)
     where
-      split : Dec (i < q) → getD changed (64 * i + j) 0 ≡ getD flat (64 * i + j) 0
-      split (yes p) = put-before flat row (64 * q) C (omega arith) e (64 * i + j) (omega arith)
+      split : Dec (i < q) → getD changed (C * i + j) 0 ≡ getD flat (C * i + j) 0
+      split (yes p) = put-before flat row (C * q) C (fits q h) e (C * i + j) (omega (arith, rows-apart C i q p))
       split (no p) =
-          let r : ℕ = 64 * i + j - (64 * q + C) in
-          let k : 64 * i + j ≡ 64 * q + (C + r) = omega arith in
-          rw k (put-after flat row (64 * q) C (omega arith) e r)
+          let r : ℕ = C * i + j - (C * q + C) in
+          let k : C * i + j ≡ C * q + (C + r) = omega (arith, rows-apart C q i (omega arith)) in
+          rw k (put-after flat row (C * q) C (fits q h) e r)
 
   other : (i : ℕ) → i < 8 → (i ≡ q → ⊥) → slotsOf C changed i ≡ slotsOf C flat i
   other i l d =
-      let m = slots-length C changed i (omega (arith, same)) in
-      ext-getD 0 (slotsOf C changed i) (slotsOf C flat i) (m ∙ sym (slots-length C flat i (omega arith)))
-      (λ j g. slot C changed i j (omega arith) ∙ at i j l d (omega arith) ∙ sym (slot C flat i j (omega arith)))
+      let m = slots-length C changed i (omega (arith, same, fits i l)) in
+      ext-getD 0 (slotsOf C changed i) (slotsOf C flat i) (m ∙ sym (slots-length C flat i (fits i l)))
+      (λ j g. slot C changed i j (omega arith) ∙ at i j d (omega arith) ∙ sym (slot C flat i j (omega arith)))
 
   pub slots-put : slotsIn C changed ≡ set (slotsIn C flat) q row
   slots-put =
@@ -123,16 +133,16 @@ module _ (W C : ℕ) (w : PackedWord) (flat : List ℕ) (q : ℕ) (z : Stage) (r
   stored-length xs store.Nothing = refl
   stored-length xs (store.Slot at node) = length-set xs at node
 
-  pub on-part : (row : List ℕ) → length flat ≡ 512 → q < 8 → C ≤ 64 → StepPacked W C w (take (64 * q + C - 64 * q) (drop (64 * q) flat)) z r row
-      → StepsIn W C w flat q z r (putMid (64 * q) (64 * q + C - 64 * q) flat row)
+  pub on-part : (row : List ℕ) → length flat ≡ 512 → q < 8 → C ≤ 64 → StepPacked W C w (take (C * q + C - C * q) (drop (C * q) flat)) z r row
+      → StepsIn W C w flat q z r (putMid (C * q) (C * q + C - C * q) flat row)
   on-part row whole h small d =
-      let e : 64 * q + C - 64 * q ≡ C = omega arith in
-      let t : StepPacked W C w (slotsOf C flat q) z r row = subst (λ (n : ℕ). StepPacked W C w (take n (drop (64 * q) flat)) z r row) e d in
+      let e : C * q + C - C * q ≡ C = omega arith in
+      let t : StepPacked W C w (slotsOf C flat q) z r row = subst (λ (n : ℕ). StepPacked W C w (take n (drop (C * q) flat)) z r row) e d in
       let k : row ≡ stored (slotsOf C flat q) (r .store) = t .unpacks .kept ∙ ap (λ (o : Stepped). stored (slotsOf C flat q) (o .store)) (sym (t .unpacks .stepped)) in
       let l = stored-length (slotsOf C flat q) (r .store) in
       record {
         stepped = rw (slots-get C flat q h) (t .stepped);
-        slots = rw (e, slots-get C flat q h) (slots-put C q flat row whole small h (ap length k ∙ l ∙ slots-length C flat q (omega arith)) ∙ ap (set (slotsIn C flat) q) k);
+        slots = rw (e, slots-get C flat q h) (slots-put C q flat row whole small h (ap length k ∙ l ∙ slots-length C flat q (omega (arith, row-in C q small h))) ∙ ap (set (slotsIn C flat) q) k);
       }
 
 -- entries put into a log, in two parts
@@ -143,9 +153,6 @@ put-append n (e ∷ es) ds log =
     rw k (put-append (suc n) es ds (putAt (5 + 12 * n) (entryBytes e) log))
 
 -- what an array of the program has past its end: all 0, and the first of each enum
-abbrev pub freshHeld : HeldQueue
-freshHeld = record { word = record { bottom = 0; age = record { word = 0 } }; resets = 0 }
-
 abbrev pub nobodyHeld : HeldProcess
 nobodyHeld = record { stage = Idle; call = Push 0; next = 0; stop = 0; start = 0; b2 = 0; «resets_at_t1» = 0 }
 

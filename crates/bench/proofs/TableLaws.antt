@@ -14,8 +14,8 @@ use Rattle.runfile.specs.Check.{sum}
 use Rattle.runfile.specs.File.{firstLengths, callsBefore}
 use Rattle.runs.specs.State.{Queue}
 use Rattle.bench.specs.declared.Bench.{Bench as HeldBench}
-use Rattle.bench.specs.inner.Layout.{benchIn, slotsOf, slotsIn}
-use Rattle.bench.proofs.LayoutLaws.{slots-get, slot, freshHeld, queue-is}
+use Rattle.bench.specs.inner.Layout.{freshHeld, benchIn, slotsOf, slotsIn}
+use Rattle.bench.proofs.LayoutLaws.{slots-get, slot, queue-is}
 use Rattle.runs.specs.Run.{tableRow, inTable, tableAt}
 
 -- the calls before those of process p
@@ -33,12 +33,12 @@ row-past w l (suc (suc zero)) a b c = absurd (c refl)
 row-past w l (suc (suc (suc i))) a b c = let e : suc (suc (suc i)) - 3 ≡ i = omega arith in ap (λ (j : ℕ). getD l j 0) (sym e)
 
 module _ (w : Word) (C : ℕ) (flat : List ℕ) (q i : ℕ) (a : i ≡ 0 → ⊥) (b : i ≡ 1 → ⊥) (c : i ≡ 2 → ⊥) where
-  pub row-slot : i - 3 < C → getD flat (64 * q + (i - 3)) 0 ≡ getD (tableRow w (slotsOf C flat q)) i 0
+  pub row-slot : i - 3 < C → getD flat (C * q + (i - 3)) 0 ≡ getD (tableRow w (slotsOf C flat q)) i 0
   row-slot h = sym (row-past w (slotsOf C flat q) i a b c ∙ slot C flat q (i - 3) h)
 
   pub row-end : C ≤ i - 3 → 0 ≡ getD (tableRow w (slotsOf C flat q)) i 0
   row-end h =
-      sym (row-past w (slotsOf C flat q) i a b c ∙ List·getD-eq-default (slotsOf C flat q) 0 {n = i - 3} (omega (arith, length-take C (drop (64 * q) flat))))
+      sym (row-past w (slotsOf C flat q) i a b c ∙ List·getD-eq-default (slotsOf C flat q) 0 {n = i - 3} (omega (arith, length-take C (drop (C * q) flat))))
 
 -- number i of a queue's row in the table
 module _ (P C : ℕ) (w : Word) (flat : List ℕ) (q i : ℕ) where

@@ -24,13 +24,14 @@ use word::Stage;
 // The steps of the closing at most: eight calls are half-done, and each has at most six steps left.
 const CLOSING_STEPS: u16 = 48;
 
-// Slots lie in a row for each queue, as many as C may be.
-const ROW: usize = 64;
+// C is at most this.
+const MOST_SLOTS: usize = 64;
 
-const ALL_SLOTS: usize = 8 * ROW;
+// The slots of all queues lie in one row, queue by queue: slot i of queue q at C × q + i.
+const ALL_SLOTS: usize = 8 * MOST_SLOTS;
 
-// The table has a row of bottom, top, tag and the slots for each queue.
-const TABLE_ROW: usize = 3 + ROW;
+// The table has a row of bottom, top, tag and as many slots as C may be for each queue.
+const TABLE_ROW: usize = 3 + MOST_SLOTS;
 
 pub const TABLE_SIZE: usize = 8 * TABLE_ROW;
 

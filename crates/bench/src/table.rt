@@ -7,7 +7,6 @@ ghost use Rattle.bench.specs.inner.Layout.{benchIn, allSlots, slotsOf, s
 ghost use Rattle.queue.specs.Packed.{unpacked};
 ghost use Rattle.runs.specs.Run.{tableRow, inTable, tableAt, tableSize};
 use crate::Bench;
-use crate::ROW;
 use crate::TABLE_ROW;
 use crate::TABLE_SIZE;
 use queue::PackedWord;
@@ -28,8 +27,10 @@ fn in_row(word: Word, size: u8, slots: &[u16], q: usize, i: usize) -> u16
         return word.tag;
     }
     let at = i - 3;
-    if at < size as usize {
-        slots[ROW * q + at]
+    let stride = size as usize;
+    if at < stride {
+        let place = stride * q + at;
+        slots[place]
     } else {
         0
     }

@@ -12,7 +12,6 @@ ghost use Rattle.runs.specs.Turn.{firstStage, begun as begunOf, processAfter, q
 use crate::Ended;
 use crate::Process;
 use crate::Queue;
-use crate::ROW;
 use crate::moment;
 use queue::Next;
 use queue::PackedStep;
@@ -116,8 +115,9 @@ fn step_slots(
     requires { ⌜ (length (now slots) ≡ allSlots) × (q < 8) × (size ≤ 64) ⌝ }
     ensures { λ r. ⌜ StepsIn width size word (now (slots .entry)) q stage r (now (slots .exit)) ⌝ }
 {
-    let from = ROW * (q as usize);
-    let to = from + size as usize;
+    let stride = size as usize;
+    let from = stride * (q as usize);
+    let to = from + stride;
     queue::step_packed(width, size, word, &mut slots[from..to], stage)
 }
 

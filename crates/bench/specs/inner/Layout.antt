@@ -1,5 +1,5 @@
--- How a state lies in the program: in its structs, with top and tag in one word, all slots in one row of 64 for each of eight queues, and the log as its
--- bytes.
+-- How a state lies in the program: in its structs, with top and tag in one word, all queues' slots in one row, C for each queue, and the log as
+-- its bytes.
 use Prim.Native.Nat.{ℕ, suc, _+_, _*_, _≤_, _<_}
 use mathlib.Core.Path.{_≡_}
 use mathlib.Core.Bool.{_||_}
@@ -33,6 +33,10 @@ use Rattle.bench.specs.declared.turn.Moved.{Moved}
 abbrev pub queueIn : HeldQueue → Queue
 queueIn m = record { word = unpacked (m .word); resets = m .resets }
 
+-- what the program's array of queues has past its end
+abbrev pub freshHeld : HeldQueue
+freshHeld = record { word = record { bottom = 0; age = record { word = 0 } }; resets = 0 }
+
 abbrev pub processIn : HeldProcess → Process
 processIn r = record {
   stage = r .stage;
@@ -51,15 +55,13 @@ endedIn (held.Call e) = ends e
 abbrev pub benchIn : HeldBench → Bench
 benchIn b = record { queues = map queueIn (b .queues); processes = map processIn (b .processes); steps = b .steps; gone = b .gone; refused = b .refused }
 
--- a queue's row of slots, and all rows
-abbrev pub row : ℕ
-row = mostSize
-
+-- the row of all slots has room for eight queues of the greatest C
 abbrev pub allSlots : ℕ
-allSlots = queueCount * row
+allSlots = queueCount * mostSize
 
+-- slot i of queue q stands at C × q + i
 abbrev pub slotsOf : ℕ → List ℕ → ℕ → List ℕ
-slotsOf C flat q = take C (drop (row * q) flat)
+slotsOf C flat q = take C (drop (C * q) flat)
 
 abbrev pub slotsIn : ℕ → List ℕ → List (List ℕ)
 slotsIn C flat = listOf queueCount (slotsOf C flat)
