@@ -6,6 +6,8 @@ pub mod Tags
 -- The run's step and the desk's are the same, and a run can be replayed at the desk.
 pub mod SameStep
 pub mod Replay
+-- Top and tag in one word: every step, log and count is as before, and the desk shows the same.
+pub mod OneWord
 -- The worked runs K1 to K8, K10 and K14 in one statement, computed; and the wrong programs that document 01 shuts out by name.
 pub mod WorkedRuns
 pub mod ShutOut
