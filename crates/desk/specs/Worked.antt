@@ -1,4 +1,4 @@
--- Steps at the desk, computed: K1 by hand, K4's tag that goes round and K5's that does not, and each refusal of document 01's list.
+-- Steps at the desk, computed: K1 by hand, K4's tag that goes round and K5's that does not, tags of 16 bits, and each refusal of document 01's list.
 use mathlib.Core.Path.{_≡_, refl}
 use mathlib.Core.List.{List, [], _∷_}
 use Prim.Native.Nat.{ℕ}
@@ -74,6 +74,14 @@ edges : Gives 8 1 (word 1 0 0) (5 ∷ []) (P1 6) Full (word 1 0 0) (5 ∷ [])
     × Gives 16 1 (word 0 0 65535) (5 ∷ []) (P2 65535 0) (Going (P3 0)) (word 0 0 65535) (65535 ∷ [])
     × Gives 8 4 (word 1 0 0) (slots 7) Idle (Going Idle) (word 1 0 0) (slots 7)
 edges = ((refl, refl, refl), (refl, refl, refl), (refl, refl, refl), (refl, refl, refl))
+
+-- W = 16: the tag after 65,535 is 0, at B6 and at B7, which looks at B4's age and not at the word; a tag of 257 is not 1, though their lower bytes agree
+one-word : Gives 16 4 (word 0 0 65535) (slots 7) (B6 1 7 0 65535) (Node 7) (word 0 0 0) (slots 7)
+    × Gives 16 4 (word 0 1 65535) (slots 7) (B7 1 7 1 65535) Nil (word 0 0 0) (slots 7)
+    × Gives 16 4 (word 0 1 8) (slots 7) (B7 1 7 1 65535) Nil (word 0 0 0) (slots 7)
+    × Gives 16 4 (word 1 0 257) (slots 7) (T4 0 1 1 7) Nil (word 1 0 257) (slots 7)
+    × Gives 16 4 (word 1 0 257) (slots 7) (T4 0 257 1 7) (Node 7) (word 1 1 257) (slots 7)
+one-word = ((refl, refl, refl), (refl, refl, refl), (refl, refl, refl), (refl, refl, refl), (refl, refl, refl))
 
 -- the paper's numbers and values for an answer of each kind
 numbered : (numberOf (Node 7) ≡ 0) × (numberOf (Refused T1) ≡ 10)

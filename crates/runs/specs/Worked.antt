@@ -1,13 +1,13 @@
--- The worked runs K1 to K8 and K13, and K4 with no tag, computed on the definitions: bytes in; entries, counts and the first queue's row of the
--- table out.
-use Prim.Native.Nat.{ℕ, _-_}
+-- The worked runs K1 to K8 and K13, K4 with no tag, and one of three queues, computed on the definitions: bytes in; entries, counts and the first queue's
+-- row of the table out.
+use Prim.Native.Nat.{ℕ, _-_, _*_}
 use mathlib.Core.Path.{_≡_, refl}
-use mathlib.Core.List.{List, [], _∷_, map}
-use lib.ListN.{length, getD, take, replicate}
+use mathlib.Core.List.{List, [], _∷_, _++_, map}
+use lib.ListN.{length, getD, take, drop, replicate}
 use Rattle.log.specs.Decode.{logLength}
 use Rattle.log.specs.Encode.{logBytes}
 use Rattle.log.specs.declared.Entry.{Entry}
-use Rattle.runs.specs.Run.{Outcome, runOf}
+use Rattle.runs.specs.Run.{Outcome, tableRowLength, runOf}
 
 pub record Case : Type 0 where
   pub file : List ℕ
@@ -158,3 +158,45 @@ worked = refl
 pub K13 : map (λ (k : Case). shown (runOf (k .file) (room k - 1))) runs ≡ map (λ (k : Case). (8 ∷ 0 ∷ 0 ∷ 0 ∷ []) ∷ replicate 7 0 ∷ [] ∷ []) runs
 unfolding runOf
 K13 = refl
+
+-- W = 16, C = 3, P = 3. Process 0 pushes 1, 2 and 3, pops 3 and pushes 4; process 1 pushes 11, 12 and 13, finds no room for 14, and takes 1 from queue 0;
+-- process 2 pushes 21 and pops it, which is a reset, pops nothing, pushes 22, and takes 11 from queue 1, with T4 in the closing
+abbrev pub threeQueues : Case
+threeQueues = record {
+  file =
+      2 ∷ 16 ∷ 3 ∷ 3 ∷ 5 ∷ 5 ∷ 5 ∷ 0 ∷ 15 ∷
+      1 ∷ 0 ∷ 1 ∷ 1 ∷ 0 ∷ 2 ∷ 1 ∷ 0 ∷ 3 ∷ 2 ∷ 0 ∷ 0 ∷ 1 ∷ 0 ∷ 4 ∷
+      1 ∷ 0 ∷ 11 ∷ 1 ∷ 0 ∷ 12 ∷ 1 ∷ 0 ∷ 13 ∷ 1 ∷ 0 ∷ 14 ∷ 3 ∷ 0 ∷ 0 ∷
+      1 ∷ 0 ∷ 21 ∷ 2 ∷ 0 ∷ 0 ∷ 2 ∷ 0 ∷ 0 ∷ 1 ∷ 0 ∷ 22 ∷ 3 ∷ 0 ∷ 1 ∷
+      0 ∷ 46 ∷ (replicate 16 0 ++ (replicate 14 1 ++ replicate 16 2));
+  entries =
+      line 0 0 1 1 1 0 2 4 ∷
+      line 0 0 1 1 2 3 5 10 ∷
+      line 0 0 1 1 3 6 8 16 ∷
+      line 0 0 2 1 3 9 12 20 ∷
+      line 0 0 1 1 4 13 15 30 ∷
+      line 1 1 1 1 11 16 18 36 ∷
+      line 1 1 1 1 12 19 21 42 ∷
+      line 1 1 1 1 13 22 24 48 ∷
+      line 1 1 1 2 14 25 25 65535 ∷
+      line 1 0 3 1 1 26 29 58 ∷
+      line 2 2 1 1 21 30 32 64 ∷
+      line 2 2 2 1 21 33 38 68 ∷
+      line 2 2 2 0 0 39 39 78 ∷
+      line 2 2 1 1 22 40 42 84 ∷
+      line 2 1 3 1 11 43 46 92 ∷
+      [];
+  steps = 47;
+  gone = 0;
+  row = 3 ∷ 1 ∷ 0 ∷ 1 ∷ 2 ∷ 4 ∷ 0 ∷ [];
+}
+
+pub three-queues : shown (runOf (threeQueues .file) (room threeQueues)) ≡ expected threeQueues
+unfolding runOf logBytes
+three-queues = refl
+
+-- bottom, top, tag and the slots of each of its queues
+pub three-rows : map (λ (q : ℕ). take 6 (drop (tableRowLength * q) (runOf (threeQueues .file) (room threeQueues) .table))) (0 ∷ 1 ∷ 2 ∷ [])
+    ≡ (3 ∷ 1 ∷ 0 ∷ 1 ∷ 2 ∷ 4 ∷ []) ∷ (3 ∷ 1 ∷ 0 ∷ 11 ∷ 12 ∷ 13 ∷ []) ∷ (1 ∷ 0 ∷ 1 ∷ 22 ∷ 0 ∷ 0 ∷ []) ∷ []
+unfolding runOf
+three-rows = refl
