@@ -7,7 +7,7 @@ use Rattle.queue.specs.Packed.{packedWord, unpacked}
 use Rattle.queue.specs.declared.PackedWord.{PackedWord}
 use Rattle.queue.proofs.PackedLaws.{packed-again}
 use Rattle.runs.specs.State.{Bench, Queue, queueAt}
-use Rattle.bench.specs.inner.Layout.{freshHeld, benchIn}
+use Rattle.bench.specs.inner.Layout.{freshHeld}
 use Rattle.bench.specs.Held.{EveryStateHeld}
 use Rattle.bench.proofs.LayoutLaws.{slots-get, slot, queue-is}
 

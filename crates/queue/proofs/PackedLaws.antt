@@ -16,9 +16,9 @@ use Rattle.word.specs.declared.Word.{Word}
 use Rattle.word.specs.declared.Stage.{Stage}
 use Rattle.word.specs.declared.Stage.the-variants.{Idle, P1, P2, P3, T1, T2, T3, T4, B1, B2, B3, B4, B5, B6, B7}
 use Rattle.queue.specs.Step.{ageTo, leaves, resets, sameAge, rowOf, loaded, loadedSlot, stored, steppedOn, StepOn}
-use Rattle.queue.specs.Packed.{packed, topOf, tagOf, nextAge, packedWord, unpacked, unpackedStep, packedAge, packedLeaves, packedResets, sameWord, packedRow, packedOn, StepPacked}
+use Rattle.queue.specs.Packed.{packed, topOf, tagOf, packedWord, unpacked, unpackedStep, packedAge, packedLeaves, packedResets, sameWord, packedRow, packedOn, StepPacked}
 use Rattle.queue.specs.declared.Next.{Next}
-use Rattle.queue.specs.declared.Next.the-variants.{Going, Node, Nil, Lost, Full, Refused}
+use Rattle.queue.specs.declared.Next.the-variants.{Going, Node, Nil, Lost, Full}
 use Rattle.queue.specs.declared.Stepped.{Stepped}
 use Rattle.queue.specs.declared.PackedWord.{PackedWord}
 use Rattle.queue.specs.declared.PackedStep.{PackedStep}

@@ -1,8 +1,5 @@
 -- Top and tag in one word: the three theorems.
-use Prim.Native.Nat.{ℕ}
-use mathlib.Core.Path.{_≡_, refl, sym, ap, _∙_}
-use mathlib.Core.List.{List}
-use lib.ListN.{take}
+use mathlib.Core.Path.{refl, sym, ap, _∙_}
 use Rattle.queue.specs.Step.{stored}
 use Rattle.queue.specs.Packed.{packed, packedWord, unpackedStep, packedOn}
 use Rattle.queue.specs.declared.Stepped.{Stepped}
