@@ -79,7 +79,7 @@ edges = ((refl, refl, refl), (refl, refl, refl), (refl, refl, refl), (refl, refl
 one-word : Gives 16 4 (word 0 0 65535) (slots 7) (B6 1 7 0 65535) (Node 7) (word 0 0 0) (slots 7)
     × Gives 16 4 (word 0 1 65535) (slots 7) (B7 1 7 1 65535) Nil (word 0 0 0) (slots 7)
     × Gives 16 4 (word 0 1 8) (slots 7) (B7 1 7 1 65535) Nil (word 0 0 0) (slots 7)
-    × Gives 16 4 (word 1 0 257) (slots 7) (T4 0 1 1 7) Nil (word 1 0 257) (slots 7)
+    × Gives 16 4 (word 1 0 257) (slots 7) (T4 0 1 1 7) Lost (word 1 0 257) (slots 7)
     × Gives 16 4 (word 1 0 257) (slots 7) (T4 0 257 1 7) (Node 7) (word 1 1 257) (slots 7)
 one-word = ((refl, refl, refl), (refl, refl, refl), (refl, refl, refl), (refl, refl, refl), (refl, refl, refl))
 
