@@ -1,0 +1,346 @@
+"use strict";
+// The page draws what it was given: bars from the log, and of each step what the desk answered. It works out nothing about queues.
+
+// What goes wrong in a script is said in the page.
+const complain = (words) => {
+  const errors = document.getElementById("errors");
+  errors.hidden = false;
+  errors.textContent += `${words}\n`;
+};
+window.onerror = (message, _file, line) => complain(`script error: ${message} (line ${line})`);
+
+const at = (id) => document.getElementById(id);
+const data = JSON.parse(at("data").textContent);
+const clean = (words) => String(words).replace(/[&<>"]/g, (c) => `&#${c.charCodeAt(0)};`);
+
+// ---- lanes: where things stand
+
+const AXIS = 40; // the steps' numbers
+const BAR = 30; // a bar's height
+const LABEL = 24; // the words above a bar
+const RAIL = 52; // a queue's line under its owner's lane, with moments
+const LANE = LABEL + BAR + RAIL;
+
+const numbers = (first, pick) => [...new Set([...Array(data.processes).keys(), ...data.bars.map(pick)])].sort((a, b) => a - b);
+const rows = numbers(0, (bar) => bar[0]).concat(numbers(0, (bar) => bar[1])).filter((id, i, all) => all.indexOf(id) === i).sort((a, b) => a - b);
+const yOf = new Map(rows.map((id, i) => [id, AXIS + i * LANE]));
+const height = AXIS + rows.length * LANE;
+const barTop = (process) => yOf.get(process) + LABEL;
+const railOf = (queue) => yOf.get(queue) + LABEL + BAR + 18;
+
+const bars = data.bars.map(([process, queue, kind, effect, start, end, moment, words, marks]) =>
+  ({ process, queue, kind, effect, start: Math.min(start, end), end: Math.max(start, end), moment, words, marks }));
+// a bar's words may go on as far as the next bar of its lane
+for (const bar of bars)
+  bar.next = Math.min(Infinity, ...bars.filter((other) => other.process === bar.process && other.start > bar.start).map((other) => other.start));
+
+const pencil = document.createElement("canvas").getContext("2d");
+const fit = (words, room) => {
+  pencil.font = `600 15px ${getComputedStyle(document.body).fontFamily}`;
+  if (pencil.measureText(words).width <= room) return words;
+  let n = words.length;
+  while (n > 0 && pencil.measureText(`${words.slice(0, n)}…`).width > room) n -= 1;
+  return n > 2 ? `${words.slice(0, n).trimEnd()}…` : "";
+};
+
+// ---- lanes: the drawing of the steps from .. to, each `wide` pixels
+
+const shape = (kind, x, y, effect) => {
+  const cls = `shape ${kind}${effect ? "" : " hollow"}`;
+  if (kind === "push") return `<circle class="${cls}" cx="${x}" cy="${y}" r="7"/>`;
+  if (kind === "pop") return `<rect class="${cls}" x="${x - 6}" y="${y - 6}" width="12" height="12"/>`;
+  return `<path class="${cls}" d="M${x} ${y - 9}l9 9l-9 9l-9 -9z"/>`;
+};
+
+const axis = (view) => {
+  const every = [1, 2, 5, 10, 20, 50, 100, 200, 500, 1000, 5000].find((n) => n * view.wide >= 44);
+  let drawn = "";
+  for (let n = Math.ceil(view.from / every) * every; n < view.to; n += every)
+    drawn += `<text class="number" x="${(n + 0.5) * view.wide}" y="26">${n}</text>`;
+  return drawn;
+};
+
+const grounds = (view) => {
+  let drawn = "";
+  if (data.steps && data.count > data.scheduled) {
+    const x = data.scheduled * view.wide;
+    drawn += `<rect class="closing" x="${x}" y="0" width="${(data.count - data.scheduled) * view.wide}" height="${height}"/>`;
+    drawn += `<line class="closing-edge" x1="${x}" x2="${x}" y1="0" y2="${height}"/><text class="closing-word" x="${x + 6}" y="12">closing</text>`;
+  }
+  if (view.step >= 0) drawn += `<rect class="cursor" x="${view.step * view.wide}" y="0" width="${view.wide}" height="${height}"/>`;
+  for (const id of rows) {
+    const ends = `x1="${view.from * view.wide}" x2="${view.to * view.wide}"`;
+    drawn += `<line class="lane" ${ends} y1="${barTop(id) + BAR / 2}" y2="${barTop(id) + BAR / 2}"/>`;
+    drawn += `<line class="rail" ${ends} y1="${railOf(id)}" y2="${railOf(id)}"/>`;
+  }
+  return drawn;
+};
+
+const label = (bar, view) => {
+  const begins = Math.max(bar.start * view.wide + 2, view.left + 6);
+  const words = `${data.shapes[bar.kind] ?? ""} ${bar.words}${bar.marks.split(" ").filter(Boolean).map((m) => ` · ${data.marks[m]}`).join("")}`;
+  const room = Math.min(bar.next, view.last) * view.wide - begins - 8;
+  const seen = begins < (bar.end + 1) * view.wide ? fit(words, room) : "";
+  return seen && `<text class="words ${bar.marks}" x="${begins}" y="${barTop(bar.process) - 8}">${clean(seen)}</text>`;
+};
+
+const drawBar = (bar, view) => {
+  const x = bar.start * view.wide + 1.5;
+  const cls = `bar ${bar.kind} ${bar.marks}${bar.effect ? "" : " hollow"}`;
+  const w = Math.max(2, (bar.end - bar.start + 1) * view.wide - 3);
+  return `<g><title>${clean(`process ${bar.process}: ${bar.words}, steps ${bar.start} to ${bar.end}`)}</title>` +
+    `<rect class="${cls}" x="${x}" y="${barTop(bar.process)}" width="${w}" height="${BAR}" rx="6"/></g>${label(bar, view)}`;
+};
+
+const drawMoment = (bar, view) => {
+  const x = (bar.moment / 2 + 0.5) * view.wide;
+  const [from, to] = [barTop(bar.process) + (railOf(bar.queue) > barTop(bar.process) ? BAR : 0), railOf(bar.queue)];
+  const number = view.wide >= 14 ? `<text class="moment" x="${x}" y="${to + 26}">${bar.moment}</text>` : "";
+  return `<line class="thread ${bar.kind}" x1="${x}" x2="${x}" y1="${from}" y2="${to}"/>${shape(bar.kind, x, to, bar.effect)}${number}`;
+};
+
+// An idle step is faint; a step of a call has its row's name where there is room for it.
+const drawSteps = (view) => {
+  let drawn = "";
+  for (let n = Math.max(0, view.from); n < Math.min(view.to, data.count); n += 1) {
+    const [process, , stage] = data.steps[n];
+    const [x, y] = [n * view.wide, barTop(process) + BAR / 2];
+    if (stage === "idle") drawn += `<line class="idle" x1="${x + view.wide * 0.3}" x2="${x + view.wide * 0.7}" y1="${y}" y2="${y}"/>`;
+    else if (view.wide >= 20) drawn += `<text class="row" x="${x + view.wide / 2}" y="${y + 5}">${stage.slice(0, 2)}</text>`;
+    else drawn += `<line class="tick" x1="${x + view.wide / 2}" x2="${x + view.wide / 2}" y1="${y - 6}" y2="${y + 6}"/>`;
+  }
+  return drawn;
+};
+
+const drawing = (view) => {
+  const seen = bars.filter((bar) => bar.end + 1 >= view.from && bar.start <= view.to);
+  const moments = bars.filter((bar) => bar.moment >= 2 * view.from - 2 && bar.moment <= 2 * view.to + 2);
+  return grounds(view) + axis(view) + seen.map((bar) => drawBar(bar, view)).join("") + (data.steps ? drawSteps(view) : "") +
+    moments.map((bar) => drawMoment(bar, view)).join("");
+};
+
+// ---- lanes: on the screen only what is visible is drawn
+
+const lanes = { wide: 28, step: -1, least: 26, most: 160, waiting: false };
+
+const redraw = () => {
+  lanes.waiting = false;
+  const scroll = at("scroll");
+  const [left, room] = [scroll.scrollLeft, scroll.clientWidth];
+  const margin = 400;
+  const from = Math.max(0, Math.floor((left - margin) / lanes.wide));
+  const to = Math.min(Math.max(data.count, 1), Math.ceil((left + room + margin) / lanes.wide));
+  const x = from * lanes.wide;
+  const last = Math.max(data.count, Math.floor(room / lanes.wide)); // words may go on to the right edge
+  const width = Math.max(room, (to - from) * lanes.wide);
+  at("canvas").innerHTML = `<svg style="left:${x}px" width="${width}" height="${height}" viewBox="${x} 0 ${width} ${height}">` +
+    `${drawing({ from, to, wide: lanes.wide, step: lanes.step, left, last })}</svg>`;
+};
+
+const redrawSoon = () => {
+  if (lanes.waiting) return;
+  lanes.waiting = true;
+  requestAnimationFrame(redraw);
+};
+
+const setWide = (wide) => {
+  const scroll = at("scroll");
+  const middle = (scroll.scrollLeft + scroll.clientWidth / 2) / lanes.wide;
+  lanes.wide = Math.min(lanes.most, Math.max(lanes.least, wide));
+  at("canvas").style.width = `${Math.max(1, data.count) * lanes.wide}px`;
+  scroll.scrollLeft = middle * lanes.wide - scroll.clientWidth / 2;
+  redrawSoon();
+};
+
+const reveal = (step) => {
+  const scroll = at("scroll");
+  const x = step * lanes.wide;
+  if (x < scroll.scrollLeft + 20 || x + lanes.wide > scroll.scrollLeft + scroll.clientWidth - 20)
+    scroll.scrollLeft = x - scroll.clientWidth / 2;
+};
+
+const nameRows = () => rows.map((id) =>
+  `<b style="top:${barTop(id) + 3}px">process ${id}</b><span style="top:${railOf(id) - 12}px">queue ${id}</span>`).join("");
+
+const openLanes = () => {
+  if (!data.steps) lanes.least = 3;
+  at("names").innerHTML = nameRows();
+  at("names").style.height = at("canvas").style.height = `${height}px`;
+  at("scroll").addEventListener("scroll", redrawSoon, { passive: true });
+  window.addEventListener("resize", redrawSoon);
+  at("narrower").addEventListener("click", () => setWide(lanes.wide / 1.4));
+  at("wider").addEventListener("click", () => setWide(lanes.wide * 1.4));
+  setWide(Math.min(64, at("scroll").clientWidth / Math.max(1, data.count)));
+  redraw();
+};
+
+// ---- lanes: on paper they are broken into lines
+
+const staves = () => {
+  const names = 84;
+  const wide = data.steps ? (data.count <= 400 ? 25 : 11) : Math.max(3, Math.min(25, 2400 / data.count));
+  const each = Math.floor((700 - names) / wide);
+  let drawn = "";
+  for (let from = 0; from === 0 || from < data.count; from += each) {
+    const view = { from, to: Math.min(from + each, Math.max(1, data.count)), wide, step: -1, left: from * wide - 4, last: from + each };
+    const words = rows.map((id) => `<text class="name" x="0" y="${barTop(id) + 20}">process ${id}</text>` +
+      `<text class="name" x="0" y="${railOf(id) + 5}">queue ${id}</text>`).join("");
+    drawn += `<svg width="700" viewBox="0 0 700 ${height}">${words}` +
+      `<svg x="${names}" width="${700 - names}" height="${height}" viewBox="${from * wide} 0 ${700 - names} ${height}">${drawing(view)}</svg></svg>`;
+  }
+  at("staves").innerHTML = drawn;
+};
+window.addEventListener("beforeprint", staves);
+window.addEventListener("afterprint", () => { at("staves").innerHTML = ""; });
+
+// ---- steps: the state after a step, from what each step altered
+
+const fresh = () => ({
+  step: -1,
+  words: Array.from({ length: data.processes }, () => [0, 0, 0]),
+  slots: Array.from({ length: data.processes }, () => Array(data.slots).fill(0)),
+  stages: Array(data.processes).fill("idle"),
+  returned: Array(data.processes).fill(0),
+  altered: { queue: -1, word: [], slots: [] },
+});
+
+const advance = (state) => {
+  state.step += 1;
+  const [process, queue, , next, result, bottom, top, tag, ...slots] = data.steps[state.step];
+  const word = [bottom, top, tag];
+  state.altered = { queue, word: word.map((n, i) => n !== state.words[queue][i]), slots: [] };
+  state.words[queue] = word;
+  for (let i = 0; i < slots.length; i += 2) {
+    state.slots[queue][slots[i]] = slots[i + 1];
+    state.altered.slots.push(slots[i]);
+  }
+  state.stages[process] = next || "idle";
+  if (result) state.returned[process] += 1;
+};
+
+let shown = null; // the state on the page
+
+const stateAt = (step) => {
+  const state = shown && shown.step < step ? shown : fresh();
+  while (state.step < step) advance(state);
+  return state;
+};
+
+// ---- steps: in words
+
+const loaded = (stage) => {
+  const [row, ...values] = stage.split(" ");
+  return (data.carries[row] ?? "").split(" ").filter(Boolean).map((name, i) => `${name} = ${values[i]}`).join(", ");
+};
+
+const outcome = (row, next, result) => {
+  if (row === "idle") return "";
+  if (next) return `It goes on to ${next.slice(0, 2)}${loaded(next) && `, with ${loaded(next)}`}.`;
+  const [name, node] = result.split(" ");
+  if (name === "node") return `It returns node ${node}.`;
+  if (name === "done" || name === "full") return `It returns ${name === "done" ? "done" : "FULL"}.`;
+  return row === "T4" ? "It returns NIL: it lost the race." : "It returns NIL: nothing there.";
+};
+
+const marksAt = (step) => bars.filter((bar) => bar.end === step && bar.marks)
+  .map((bar) => bar.marks.split(" ").map((mark) => `<b class="mark ${mark}">${data.marks[mark]}</b>`).join("")).join("");
+
+const didAt = (step) => {
+  if (step < 0) return `<h3>Before step 0</h3><p>${data.count ? "Every queue is empty and every number 0." : "This run has no steps."}</p>`;
+  const [process, queue, stage, next, result] = data.steps[step];
+  const row = stage.split(" ")[0];
+  const closing = step >= data.scheduled ? '<b class="mark">▨ closing</b>' : "";
+  const [access, then] = data.rows[row];
+  const place = row === "idle" ? "idle" : `${row} on queue ${queue}`;
+  const numbers = loaded(stage);
+  return `<h3>Step ${step} of ${data.count - 1}: process ${process}, ${place} ${closing}${marksAt(step)}</h3>` +
+    `<p class="access"><b>${row}</b> ${clean(access)}${then && ` <span class="then">then ${clean(then)}</span>`}</p>` +
+    `<p>${numbers && `With ${numbers}. `}${outcome(row, next, result)}</p>`;
+};
+
+const slotBoxes = (state, queue) => {
+  const [bottom, top] = state.words[queue];
+  const touched = state.altered.queue === queue;
+  const pointers = (i) => (i === top ? "<em>top</em>" : "") + (i === bottom ? "<em>bottom</em>" : "");
+  const boxes = state.slots[queue].map((node, i) => {
+    const cls = (i >= top && i < bottom ? "between " : "") + (touched && state.altered.slots.includes(i) ? "altered" : "");
+    return `<li class="${cls}"><i>${i}</i><b>${node}</b>${pointers(i)}</li>`;
+  });
+  const past = pointers(data.slots);
+  return `<ol class="slots">${boxes.join("")}${past && `<li class="past"><i>${data.slots}</i><b></b>${past}</li>`}</ol>`;
+};
+
+const queueCard = (state, queue) => {
+  const touched = state.altered.queue === queue;
+  const word = ["bottom", "top", "tag"].map((name, i) =>
+    `<div class="${touched && state.altered.word[i] ? "altered" : ""}"><dt>${name}</dt><dd>${state.words[queue][i]}</dd></div>`).join("");
+  return `<h3>queue ${queue}</h3><dl>${word}</dl>${slotBoxes(state, queue)}`;
+};
+
+const processRow = (state, process) => {
+  const [script, stage, returned] = [data.scripts[process], state.stages[process], state.returned[process]];
+  const moved = state.step >= 0 && data.steps[state.step][0] === process;
+  const next = script[returned] ? `idle; next is ${script[returned]}` : "idle; no call is left";
+  const [call, row] = stage === "idle" ? [next, "–"] : [`in ${script[returned]}`, stage.split(" ")[0]];
+  return `<tr class="${moved ? "moved" : ""}"><td>process ${process}</td><td>${clean(call)}</td><td>${row}</td><td>${loaded(stage) || "–"}</td></tr>`;
+};
+
+const putIf = (element, inside) => {
+  if (element.innerHTML !== inside && element.given !== inside) element.innerHTML = element.given = inside;
+};
+
+const show = (step) => {
+  shown = stateAt(step);
+  lanes.step = step;
+  at("slider").value = step;
+  at("slider").setAttribute("aria-valuetext", step < 0 ? "before step 0" : `step ${step}`);
+  putIf(at("did"), didAt(step));
+  [...at("queues").children].forEach((card, queue) => {
+    card.classList.toggle("touched", shown.altered.queue === queue);
+    putIf(card, queueCard(shown, queue));
+  });
+  putIf(document.querySelector("#processes tbody"), data.scripts.map((_, p) => processRow(shown, p)).join(""));
+  reveal(Math.max(0, step));
+  redrawSoon();
+};
+
+// ---- steps: going to one
+
+let later = 0;
+const goTo = (step) => {
+  const to = Math.max(-1, Math.min(data.count - 1, step));
+  show(to);
+  clearTimeout(later); // an address for each stop, not for each step on the way
+  later = setTimeout(() => history.replaceState(null, "", to < 0 ? "#" : `#step=${to}`), 200);
+};
+
+const byAddress = () => {
+  const match = /^#step=(\d+)$/.exec(location.hash);
+  show(match ? Math.min(data.count - 1, Number(match[1])) : -1);
+};
+
+const byKey = (event) => {
+  if (event.altKey || event.ctrlKey || event.metaKey || event.target.closest(".strip, .wide")) return;
+  const to = { ArrowLeft: shown.step - 1, ArrowRight: shown.step + 1, Home: -1, End: data.count - 1 }[event.key];
+  if (to === undefined) return;
+  event.preventDefault();
+  goTo(to);
+};
+
+const openSteps = () => {
+  at("slider").max = data.count - 1;
+  at("slider").disabled = data.count === 0;
+  at("queues").innerHTML = data.scripts.map(() => '<section class="queue"></section>').join("");
+  at("slider").addEventListener("input", (event) => goTo(Number(event.target.value)));
+  at("back").addEventListener("click", () => goTo(shown.step - 1));
+  at("on").addEventListener("click", () => goTo(shown.step + 1));
+  at("scroll").addEventListener("click", (event) =>
+    goTo(Math.floor((at("scroll").scrollLeft + event.clientX - at("scroll").getBoundingClientRect().left) / lanes.wide)));
+  document.addEventListener("keydown", byKey);
+  window.addEventListener("hashchange", byAddress);
+  byAddress();
+};
+
+openLanes();
+if (data.steps) openSteps();
+redraw();
