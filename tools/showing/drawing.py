@@ -2,12 +2,12 @@
 import html
 import json
 
-from .queues import changes
-from .reading import DONE, NO_MOMENT, TAKE
+from .queues import changes, held
+from .reading import DONE, NO_MOMENT, PUSH
 from .words import CARRIES, KINDS, ROWS, call_words, script_words
 
 SHAPES = {1: "●", 2: "■", 3: "◆"}
-MARKS = {"fault": "✕ fault", "clash": "! clash", "gone": "↻ gone round"}
+MARKS = {"fault": "✕ fault", "clash": "! clash", "gone": "↻ gone round", "unseen": "↺ reset"}
 
 
 def text(words):
@@ -35,24 +35,32 @@ def kind_class(e):
 
 # ---- the queues by moments
 
-def column(head, nodes, cls="", gone=None):
+def column(head, nodes, cls="", new=None):
     """A queue's nodes between one moment and the next. A node that just came is set off."""
-    items = "".join(tag("li", text(node), "new" if node == gone and i == len(nodes) - 1 else "") for i, node in enumerate(nodes))
+    items = "".join(tag("li", text(node), "new" if node == new and i == len(nodes) - 1 else "") for i, node in enumerate(nodes))
     return tag("div", head + (tag("ol", items) if nodes else tag("p", "empty", "empty")), f"column {cls}".strip())
 
 
-def change_column(change, marked):
-    e = change.entry
+def call_column(when, e, nodes, marked):
+    """A call and the nodes after it."""
     call = tag("span", f"{SHAPES.get(e.kind, '')} {text(call_words(e))}", f"call {kind_class(e)}")
-    head = tag("h4", f"moment {e.moment}") + tag("p", f"process {e.process}", "who") + call + marks_of(e.place, marked)
-    return column(head, change.after, classes_of(e.place, marked), e.node if e.did(1, DONE) else None)
+    head = tag("h4", when) + tag("p", f"process {e.process}", "who") + call + marks_of(e.place, marked)
+    return column(head, nodes, classes_of(e.place, marked), e.node if e.did(PUSH, DONE) else None)
+
+
+def columns(story, queue, marked):
+    """By rising moment. An entry at fault that has no moment stands where its call begins."""
+    made = [(c.entry.moment, call_column(f"moment {c.entry.moment}", c.entry, c.after, marked)) for c in changes(story.entries, queue)]
+    for e in (story.entries[place] for place in marked["fault"]):
+        if e.queue == queue and not e.bears():
+            low, high = 2 * e.start, 2 * e.end + 1
+            made.append((low - 0.5, call_column(f"moments {low} to {high}", e, held(story.entries, queue, low), marked)))
+    return [drawn for _, drawn in sorted(made)]
 
 
 def queue_strip(story, queue, marked):
-    made = changes(story.entries, queue)
     first = column(tag("h4", "at first"), ())
-    strip = tag("div", first + "".join(change_column(change, marked) for change in made), "strip", tabindex=0, role="group",
-                aria_label=f"queue {queue} by moments")
+    strip = tag("div", first + "".join(columns(story, queue, marked)), "strip", tabindex=0, role="group", aria_label=f"queue {queue} by moments")
     return tag("section", tag("h3", f"queue {queue}") + strip, "queue-by-moments")
 
 
@@ -69,9 +77,9 @@ def queues_part(story, marked):
 
 # ---- the log in words
 
-def row(e, marked, steps):
+def row(e, marked):
     moment = "none" if e.moment == NO_MOMENT else e.moment
-    end = tag("a", e.end, href=f"#step={e.end}") if steps else e.end
+    end = tag("a", e.end, href=f"#step={e.end}")
     call = f"{SHAPES.get(e.kind, '')} {text(call_words(e))} {marks_of(e.place, marked)}"
     cells = [tag("td", cell) for cell in (e.place, f"process {e.process}", call, e.queue, e.start, end, moment)]
     return tag("tr", "".join(cells), classes_of(e.place, marked))
@@ -81,7 +89,7 @@ def log_part(story, marked):
     if not story.entries:
         return tag("p", "No call was finished.")
     head = "".join(tag("th", name, scope="col") for name in ("entry", "process", "call", "queue", "start", "end", "moment"))
-    rows = "".join(row(e, marked, story.run) for e in story.entries)
+    rows = "".join(row(e, marked) for e in story.entries)
     return tag("div", tag("table", tag("thead", tag("tr", head)) + tag("tbody", rows)), "wide")
 
 
@@ -108,6 +116,7 @@ def data_of(story, steps, marked):
     """All that the script gets, as JSON that can stand inside a script element."""
     data = {
         "processes": story.processes, "slots": story.slots, "count": story.steps,
+        "opens": story.entries[story.fault].end if story.number else -1,
         "bars": [bar(e, marked) for e in story.entries],
         "shapes": {KINDS[kind]: shape for kind, shape in SHAPES.items()}, "marks": MARKS,
     }

@@ -21,8 +21,8 @@ const LABEL = 24; // the words above a bar
 const RAIL = 52; // a queue's line under its owner's lane, with moments
 const LANE = LABEL + BAR + RAIL;
 
-const numbers = (first, pick) => [...new Set([...Array(data.processes).keys(), ...data.bars.map(pick)])].sort((a, b) => a - b);
-const rows = numbers(0, (bar) => bar[0]).concat(numbers(0, (bar) => bar[1])).filter((id, i, all) => all.indexOf(id) === i).sort((a, b) => a - b);
+// a lane for each process with the line of its queue; a log at fault may name others
+const rows = [...new Set([...Array(data.processes).keys(), ...data.bars.flatMap(([process, queue]) => [process, queue])])].sort((a, b) => a - b);
 const yOf = new Map(rows.map((id, i) => [id, AXIS + i * LANE]));
 const height = AXIS + rows.length * LANE;
 const barTop = (process) => yOf.get(process) + LABEL;
@@ -34,10 +34,16 @@ const bars = data.bars.map(([process, queue, kind, effect, start, end, moment, w
 for (const bar of bars)
   bar.next = Math.min(Infinity, ...bars.filter((other) => other.process === bar.process && other.start > bar.start).map((other) => other.start));
 
+const byMoment = bars.filter((bar) => bar.moment >= 0).sort((a, b) => a.moment - b.moment);
+const unseen = new Set(bars.filter((bar) => bar.marks.includes("unseen")).map((bar) => bar.end)); // a reset is its pop's last step
+
 const pencil = document.createElement("canvas").getContext("2d");
-const fit = (words, room) => {
-  pencil.font = `600 15px ${getComputedStyle(document.body).fontFamily}`;
-  if (pencil.measureText(words).width <= room) return words;
+// The first of these words for which there is room, or the last of them cut.
+const fit = (all, room, size) => {
+  pencil.font = `600 ${size}px ${getComputedStyle(document.body).fontFamily}`;
+  const whole = all.find((words) => pencil.measureText(words).width <= room);
+  if (whole) return whole;
+  const words = all.at(-1);
   let n = words.length;
   while (n > 0 && pencil.measureText(`${words.slice(0, n)}…`).width > room) n -= 1;
   return n > 2 ? `${words.slice(0, n).trimEnd()}…` : "";
@@ -78,9 +84,11 @@ const grounds = (view) => {
 
 const label = (bar, view) => {
   const begins = Math.max(bar.start * view.wide + 2, view.left + 6);
-  const words = `${data.shapes[bar.kind] ?? ""} ${bar.words}${bar.marks.split(" ").filter(Boolean).map((m) => ` · ${data.marks[m]}`).join("")}`;
-  const room = Math.min(bar.next, view.last) * view.wide - begins - 8;
-  const seen = begins < (bar.end + 1) * view.wide ? fit(words, room) : "";
+  const marks = bar.marks.split(" ").filter(Boolean);
+  const words = (some) => [`${data.shapes[bar.kind] ?? ""} ${bar.words}`, ...some.map((mark) => data.marks[mark])].join(" · ");
+  const room = Math.min(bar.next, view.last) * view.wide - begins - 4;
+  if (begins >= (bar.end + 1) * view.wide) return "";
+  const seen = fit([words(marks), words(marks.filter((mark) => mark !== "unseen"))], room, view.size); // a reset has its ring besides
   return seen && `<text class="words ${bar.marks}" x="${begins}" y="${barTop(bar.process) - 8}">${clean(seen)}</text>`;
 };
 
@@ -92,19 +100,36 @@ const drawBar = (bar, view) => {
     `<rect class="${cls}" x="${x}" y="${barTop(bar.process)}" width="${w}" height="${BAR}" rx="6"/></g>${label(bar, view)}`;
 };
 
+const momentX = (bar, view) => (bar.moment / 2 + 0.5) * view.wide;
+
 const drawMoment = (bar, view) => {
-  const x = (bar.moment / 2 + 0.5) * view.wide;
+  const x = momentX(bar, view);
   const [from, to] = [barTop(bar.process) + (railOf(bar.queue) > barTop(bar.process) ? BAR : 0), railOf(bar.queue)];
-  const number = view.wide >= 14 ? `<text class="moment" x="${x}" y="${to + 26}">${bar.moment}</text>` : "";
-  return `<line class="thread ${bar.kind}" x1="${x}" x2="${x}" y1="${from}" y2="${to}"/>${shape(bar.kind, x, to, bar.effect)}${number}`;
+  return `<line class="thread ${bar.kind}" x1="${x}" x2="${x}" y1="${from}" y2="${to}"/>${shape(bar.kind, x, to, bar.effect)}`;
 };
 
-// An idle step is faint; a step of a call has its row's name where there is room for it.
+// Numbers of moments that are close to one another step aside, and where there is no room the later one is left out.
+const momentNumbers = (moments, view) => {
+  const last = new Map(); // of each queue, where its last number ends
+  return moments.map((bar, i) => {
+    const x = momentX(bar, view);
+    const half = 5 + 4 * String(bar.moment).length;
+    const next = moments.slice(i + 1).find((other) => other.queue === bar.queue);
+    const close = next && momentX(next, view) - x < 2 * half;
+    const middle = Math.max(close ? x - half / 2 : x, (last.get(bar.queue) ?? -Infinity) + half);
+    if (middle - x > half) return "";
+    last.set(bar.queue, middle + half);
+    return `<text class="moment" x="${middle}" y="${railOf(bar.queue) + 26}">${bar.moment}</text>`;
+  }).join("");
+};
+
+// An idle step is faint; a reset that a take did not see has a ring; a step of a call has its row's name where there is room for it.
 const drawSteps = (view) => {
   let drawn = "";
   for (let n = Math.max(0, view.from); n < Math.min(view.to, data.count); n += 1) {
     const [process, , stage] = data.steps[n];
     const [x, y] = [n * view.wide, barTop(process) + BAR / 2];
+    if (unseen.has(n)) drawn += `<ellipse class="unseen" cx="${x + view.wide / 2}" cy="${y}" rx="${Math.min(17, view.wide / 2)}" ry="13"/>`;
     if (stage === "idle") drawn += `<line class="idle" x1="${x + view.wide * 0.3}" x2="${x + view.wide * 0.7}" y1="${y}" y2="${y}"/>`;
     else if (view.wide >= 20) drawn += `<text class="row" x="${x + view.wide / 2}" y="${y + 5}">${stage.slice(0, 2)}</text>`;
     else drawn += `<line class="tick" x1="${x + view.wide / 2}" x2="${x + view.wide / 2}" y1="${y - 6}" y2="${y + 6}"/>`;
@@ -114,14 +139,14 @@ const drawSteps = (view) => {
 
 const drawing = (view) => {
   const seen = bars.filter((bar) => bar.end + 1 >= view.from && bar.start <= view.to);
-  const moments = bars.filter((bar) => bar.moment >= 2 * view.from - 2 && bar.moment <= 2 * view.to + 2);
+  const moments = byMoment.filter((bar) => bar.moment >= 2 * view.from - 2 && bar.moment <= 2 * view.to + 2);
   return grounds(view) + axis(view) + seen.map((bar) => drawBar(bar, view)).join("") + (data.steps ? drawSteps(view) : "") +
-    moments.map((bar) => drawMoment(bar, view)).join("");
+    moments.map((bar) => drawMoment(bar, view)).join("") + momentNumbers(moments, view);
 };
 
 // ---- lanes: on the screen only what is visible is drawn
 
-const lanes = { wide: 28, step: -1, least: 26, most: 160, waiting: false };
+const lanes = { wide: 28, step: -1, least: data.steps ? 26 : 3, most: 160, waiting: false };
 
 const redraw = () => {
   lanes.waiting = false;
@@ -133,8 +158,8 @@ const redraw = () => {
   const x = from * lanes.wide;
   const last = Math.max(data.count, Math.floor(room / lanes.wide)); // words may go on to the right edge
   const width = Math.max(room, (to - from) * lanes.wide);
-  at("canvas").innerHTML = `<svg style="left:${x}px" width="${width}" height="${height}" viewBox="${x} 0 ${width} ${height}">` +
-    `${drawing({ from, to, wide: lanes.wide, step: lanes.step, left, last })}</svg>`;
+  at("canvas").innerHTML = `<svg style="left:${x}px" font-size="15" width="${width}" height="${height}" viewBox="${x} 0 ${width} ${height}">` +
+    `${drawing({ from, to, wide: lanes.wide, step: lanes.step, left, last, size: 15 })}</svg>`;
 };
 
 const redrawSoon = () => {
@@ -163,7 +188,6 @@ const nameRows = () => rows.map((id) =>
   `<b style="top:${barTop(id) + 3}px">process ${id}</b><span style="top:${railOf(id) - 12}px">queue ${id}</span>`).join("");
 
 const openLanes = () => {
-  if (!data.steps) lanes.least = 3;
   at("names").innerHTML = nameRows();
   at("names").style.height = at("canvas").style.height = `${height}px`;
   at("scroll").addEventListener("scroll", redrawSoon, { passive: true });
@@ -176,19 +200,24 @@ const openLanes = () => {
 
 // ---- lanes: on paper they are broken into lines
 
+const NAMES = 100; // room for the names at the left of a line
+const LONG = 400; // a longer run is drawn smaller
+
+const stave = (from, each, width) => {
+  const wide = Math.min(40, (width - NAMES) / each);
+  const to = Math.min(from + each, Math.max(1, data.count));
+  const view = { from, to, wide, step: -1, left: from * wide - 4, last: from + (width - NAMES) / wide, size: width > 700 ? 19 : 13 };
+  const names = rows.map((id) => `<text x="0" y="${barTop(id) + 20}">process ${id}</text><text x="0" y="${railOf(id) + 5}">queue ${id}</text>`).join("");
+  const inner = `viewBox="${from * wide} 0 ${width - NAMES} ${height}"`;
+  return `<svg viewBox="0 0 ${width} ${height}" font-size="${view.size}">${names}` +
+    `<svg x="${NAMES}" width="${width - NAMES}" height="${height}" ${inner}>${drawing(view)}</svg></svg>`;
+};
+
 const staves = () => {
-  const names = 84;
-  const wide = data.steps ? (data.count <= 400 ? 25 : 11) : Math.max(3, Math.min(25, 2400 / data.count));
-  const each = Math.floor((700 - names) / wide);
-  let drawn = "";
-  for (let from = 0; from === 0 || from < data.count; from += each) {
-    const view = { from, to: Math.min(from + each, Math.max(1, data.count)), wide, step: -1, left: from * wide - 4, last: from + each };
-    const words = rows.map((id) => `<text class="name" x="0" y="${barTop(id) + 20}">process ${id}</text>` +
-      `<text class="name" x="0" y="${railOf(id) + 5}">queue ${id}</text>`).join("");
-    drawn += `<svg width="700" viewBox="0 0 700 ${height}">${words}` +
-      `<svg x="${names}" width="${700 - names}" height="${height}" viewBox="${from * wide} 0 ${700 - names} ${height}">${drawing(view)}</svg></svg>`;
-  }
-  at("staves").innerHTML = drawn;
+  const [width, most] = data.count > LONG ? [1400, data.steps ? 120 : 400] : [700, 28];
+  const lines = Math.max(1, Math.ceil(data.count / most));
+  const each = Math.max(1, Math.ceil(data.count / lines));
+  at("staves").innerHTML = Array.from({ length: lines }, (_, i) => stave(i * each, each, width)).join("");
 };
 window.addEventListener("beforeprint", staves);
 window.addEventListener("afterprint", () => { at("staves").innerHTML = ""; });
@@ -226,6 +255,11 @@ const stateAt = (step) => {
   return state;
 };
 
+// A slot that no step of the run reaches is not drawn.
+const reached = Array(data.processes).fill(0);
+for (const [, queue, , , , bottom, top, , ...slots] of data.steps ?? [])
+  reached[queue] = Math.max(reached[queue], bottom, top, ...slots.filter((_, i) => i % 2 === 0).map((i) => i + 1));
+
 // ---- steps: in words
 
 const loaded = (stage) => {
@@ -262,12 +296,14 @@ const slotBoxes = (state, queue) => {
   const [bottom, top] = state.words[queue];
   const touched = state.altered.queue === queue;
   const pointers = (i) => (i === top ? "<em>top</em>" : "") + (i === bottom ? "<em>bottom</em>" : "");
-  const boxes = state.slots[queue].map((node, i) => {
+  const drawn = data.slots - reached[queue] > 4 ? Math.max(4, reached[queue] + 1) : data.slots;
+  const boxes = state.slots[queue].slice(0, drawn).map((node, i) => {
     const cls = (i >= top && i < bottom ? "between " : "") + (touched && state.altered.slots.includes(i) ? "altered" : "");
     return `<li class="${cls}"><i>${i}</i><b>${node}</b>${pointers(i)}</li>`;
   });
   const past = pointers(data.slots);
-  return `<ol class="slots">${boxes.join("")}${past && `<li class="past"><i>${data.slots}</i><b></b>${past}</li>`}</ol>`;
+  const rest = drawn < data.slots ? `<li class="rest">${drawn} to ${data.slots - 1}: 0</li>` : "";
+  return `<ol class="slots">${boxes.join("")}${rest}${past && `<li class="past"><i>${data.slots}</i><b></b>${past}</li>`}</ol>`;
 };
 
 const queueCard = (state, queue) => {
@@ -314,9 +350,14 @@ const goTo = (step) => {
   later = setTimeout(() => history.replaceState(null, "", to < 0 ? "#" : `#step=${to}`), 200);
 };
 
+// The step of the address; without one, that of the fault, or else the beginning.
 const byAddress = () => {
   const match = /^#step=(\d+)$/.exec(location.hash);
-  show(match ? Math.min(data.count - 1, Number(match[1])) : -1);
+  const step = Math.min(data.count - 1, match ? Number(match[1]) : data.opens);
+  if (data.steps) return show(step);
+  lanes.step = match ? step : -1;
+  reveal(Math.max(0, step));
+  redrawSoon();
 };
 
 const byKey = (event) => {
@@ -337,10 +378,10 @@ const openSteps = () => {
   at("scroll").addEventListener("click", (event) =>
     goTo(Math.floor((at("scroll").scrollLeft + event.clientX - at("scroll").getBoundingClientRect().left) / lanes.wide)));
   document.addEventListener("keydown", byKey);
-  window.addEventListener("hashchange", byAddress);
-  byAddress();
 };
 
 openLanes();
 if (data.steps) openSteps();
+byAddress();
+window.addEventListener("hashchange", byAddress);
 redraw();

@@ -8,7 +8,7 @@ from .drawing import data_of, log_part, queues_part, tag, text
 from .faults import fault_of, gone_words
 from .reading import NIL, LOST, TAKE, Trouble
 from .replay import gone_round
-from .words import RULES, many
+from .words import RULES, listed, many
 
 HERE = pathlib.Path(__file__).resolve().parent
 MADE_BY = "<!doctype html>\n<!-- made by scarpgoblet show -->\n"  # a file that begins so may be written over
@@ -31,15 +31,22 @@ def verdict(story, fault):
         return tag("div", tag("p", tag("b", "✓ Accepted.") + " The judge's number is 0: the log keeps all six rules."), "verdict accepted")
     name, law = RULES[story.number]
     head = tag("p", tag("b", f"✕ The judge's number is {story.number}, at entry {story.fault}.") + f" It breaks {name}: {text(law)}.")
-    return tag("div", head + tag("p", text(fault.why), "why"), "verdict wrong")
+    steps = [story.entries[place].end for place in (*fault.clashes, story.fault)]
+    return tag("div", head + tag("p", text(fault.why), "why") + see(steps), "verdict wrong")
+
+
+def see(steps):
+    """A way to these steps."""
+    links = listed(tag("a", f"step {at}", href=f"#step={at}") for at in steps)
+    return tag("p", f"See {links}.")
 
 
 def gone_part(story, calls):
     """The takes that have gone round, with a way to the steps."""
     told = []
     for call in gone_round(calls):
-        links = " ".join(tag("a", f"step {at}", href=f"#step={at}") for at in (call.rows["T1"], *call.unseen, call.rows["T4"]))
-        told.append(tag("div", tag("p", tag("b", "↻ Gone round. ") + text(gone_words(story.run, call, story.entries))) + tag("p", f"See {links}."), "verdict gone"))
+        why = tag("p", tag("b", "↻ Gone round. ") + text(gone_words(story.run, call, story.entries)))
+        told.append(tag("div", why + see([call.rows["T1"], *call.unseen, call.rows["T4"]]), "verdict gone"))
     return "".join(told)
 
 
@@ -55,10 +62,13 @@ def notes(story):
 
 
 def marked_entries(story, fault, calls):
+    """The places of the entries that are marked, by their marks. A reset is the last step of a pop."""
+    unseen = {at for call in gone_round(calls) for at in call.unseen}
     return {
         "fault": [story.fault] if fault else [],
         "clash": fault.clashes if fault else [],
         "gone": [call.entry.place for call in gone_round(calls)],
+        "unseen": [call.entry.place for call in calls if call.entry.end in unseen],
     }
 
 

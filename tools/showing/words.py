@@ -63,7 +63,7 @@ def script_words(code, argument):
 
 def many(n, thing):
     """`1 push`, `2 pushes`."""
-    return f"{n} {thing}{'' if n == 1 else 'es' if thing.endswith('sh') else 's'}"
+    return f"{n:,} {thing}{'' if n == 1 else 'es' if thing.endswith('sh') else 's'}"
 
 
 def listed(things):
