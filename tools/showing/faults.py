@@ -146,5 +146,5 @@ def gone_words(run, call, entries):
     e = entries[call.entry.place]
     resets = f"reset at step{'s' * (len(call.unseen) > 1)} {listed(call.unseen)}"
     why = "there is no tag" if run.width == 0 else f"its tag of {many(run.width, 'bit')} had come round to the same number"
-    return (f"{capital(named(e))}: queue {e.queue} was {resets}, between this call's T1 at step {call.rows['T1']} and its T4 at step {call.rows['T4']}, "
-            f"and T4 saw nothing of it, since {why}.")
+    between = f"between this call's T1 at step {call.rows['T1']} and its T4 at step {call.rows['T4']}"
+    return f"{capital(named(e))}: queue {e.queue} was {resets}, {between}, and T4 saw nothing of it, since {why}."

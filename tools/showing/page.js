@@ -146,7 +146,7 @@ const drawing = (view) => {
 
 // ---- lanes: on the screen only what is visible is drawn
 
-const lanes = { wide: 28, step: -1, least: data.steps ? 26 : 3, most: 160, waiting: false };
+const lanes = { wide: 28, step: -1, least: 3, most: 160, waiting: false };
 
 const redraw = () => {
   lanes.waiting = false;
@@ -194,7 +194,7 @@ const openLanes = () => {
   window.addEventListener("resize", redrawSoon);
   at("narrower").addEventListener("click", () => setWide(lanes.wide / 1.4));
   at("wider").addEventListener("click", () => setWide(lanes.wide * 1.4));
-  setWide(Math.min(64, at("scroll").clientWidth / Math.max(1, data.count)));
+  setWide(Math.max(data.steps ? 26 : 3, Math.min(64, at("scroll").clientWidth / Math.max(1, data.count))));
   redraw();
 };
 
@@ -207,7 +207,8 @@ const stave = (from, each, width) => {
   const wide = Math.min(40, (width - NAMES) / each);
   const to = Math.min(from + each, Math.max(1, data.count));
   const view = { from, to, wide, step: -1, left: from * wide - 4, last: from + (width - NAMES) / wide, size: width > 700 ? 19 : 13 };
-  const names = rows.map((id) => `<text x="0" y="${barTop(id) + 20}">process ${id}</text><text x="0" y="${railOf(id) + 5}">queue ${id}</text>`).join("");
+  const name = (words, y) => `<text x="0" y="${y}">${words}</text>`;
+  const names = rows.map((id) => name(`process ${id}`, barTop(id) + 20) + name(`queue ${id}`, railOf(id) + 5)).join("");
   const inner = `viewBox="${from * wide} 0 ${width - NAMES} ${height}"`;
   return `<svg viewBox="0 0 ${width} ${height}" font-size="${view.size}">${names}` +
     `<svg x="${NAMES}" width="${width - NAMES}" height="${height}" ${inner}>${drawing(view)}</svg></svg>`;
@@ -318,11 +319,12 @@ const processRow = (state, process) => {
   const moved = state.step >= 0 && data.steps[state.step][0] === process;
   const next = script[returned] ? `idle; next is ${script[returned]}` : "idle; no call is left";
   const [call, row] = stage === "idle" ? [next, "–"] : [`in ${script[returned]}`, stage.split(" ")[0]];
-  return `<tr class="${moved ? "moved" : ""}"><td>process ${process}</td><td>${clean(call)}</td><td>${row}</td><td>${loaded(stage) || "–"}</td></tr>`;
+  const cells = [`process ${process}`, clean(call), row, loaded(stage) || "–"].map((cell) => `<td>${cell}</td>`).join("");
+  return `<tr class="${moved ? "moved" : ""}">${cells}</tr>`;
 };
 
 const putIf = (element, inside) => {
-  if (element.innerHTML !== inside && element.given !== inside) element.innerHTML = element.given = inside;
+  if (element.given !== inside) element.innerHTML = element.given = inside;
 };
 
 const show = (step) => {
@@ -383,5 +385,8 @@ const openSteps = () => {
 openLanes();
 if (data.steps) openSteps();
 byAddress();
-window.addEventListener("hashchange", byAddress);
+window.addEventListener("hashchange", () => {
+  byAddress();
+  document.querySelector(".lanes").scrollIntoView({ block: "nearest" });
+});
 redraw();

@@ -92,8 +92,8 @@ def fits_run(data):
 
 
 def which(data):
-    """("run" or "log", whether the other fits too). A run file's fourth byte is P, 1 to 8; a log's is the higher byte of the number of its entries: 1 for
-    256 of them, else 0."""
+    """("run" or "log", whether the other fits too). A run file's fourth byte is P, 1 to 8; a log's is the higher byte of the number of its
+    entries: 1 for 256 of them, else 0."""
     if len(data) >= 4 and data[3] == 0:
         return "log", False
     if not fits_log(data):
