@@ -69,7 +69,8 @@ def queues_part(story, marked):
         return tag("p", f"The judge reads no queue of a log that breaks rule {story.number - 13}.")
     used = [q for q in range(story.processes) if any(e.bears() and e.queue == q for e in story.entries)]
     unused = [q for q in range(story.processes) if q not in used]
-    parts = [queue_strip(story, q, marked) for q in used]
+    parts = [tag("p", "Each column is a queue from one moment to the next, its top node first, as the judge reads the log.", "quiet")]
+    parts += [queue_strip(story, q, marked) for q in used]
     if unused:
         parts.append(tag("p", f"No call has a moment on queue {', '.join(map(str, unused))}: empty from first to last.", "quiet"))
     return "".join(parts)

@@ -15,7 +15,7 @@ const clean = (words) => String(words).replace(/[&<>"]/g, (c) => `&#${c.charCode
 
 // ---- lanes: where things stand
 
-const AXIS = 40; // the steps' numbers
+const AXIS = 46; // the steps' numbers
 const BAR = 30; // a bar's height
 const LABEL = 24; // the words above a bar
 const RAIL = 52; // a queue's line under its owner's lane, with moments
@@ -62,18 +62,23 @@ const axis = (view) => {
   const every = [1, 2, 5, 10, 20, 50, 100, 200, 500, 1000, 5000].find((n) => n * view.wide >= 44);
   let drawn = "";
   for (let n = Math.ceil(view.from / every) * every; n < view.to; n += every)
-    drawn += `<text class="number" x="${(n + 0.5) * view.wide}" y="26">${n}</text>`;
+    drawn += `<text class="number" x="${(n + 0.5) * view.wide}" y="34">${n}</text>`;
   return drawn;
 };
 
+const HATCH = '<pattern id="hatch" width="7" height="7" patternUnits="userSpaceOnUse" patternTransform="rotate(45)"><path d="M0 0v7"/></pattern>';
+
+// The closing's steps are set off.
+const closing = (view) => {
+  if (!data.steps || data.count === data.scheduled) return "";
+  const x = data.scheduled * view.wide;
+  return `${HATCH}<rect class="closing" x="${x}" y="0" width="${(data.count - data.scheduled) * view.wide}" height="${height}" fill="url(#hatch)"/>` +
+    `<line class="closing-edge" x1="${x}" x2="${x}" y1="0" y2="${height}"/><text class="closing-word" x="${x + 6}" y="14">closing</text>`;
+};
+
 const grounds = (view) => {
-  let drawn = "";
-  if (data.steps && data.count > data.scheduled) {
-    const x = data.scheduled * view.wide;
-    drawn += `<rect class="closing" x="${x}" y="0" width="${(data.count - data.scheduled) * view.wide}" height="${height}"/>`;
-    drawn += `<line class="closing-edge" x1="${x}" x2="${x}" y1="0" y2="${height}"/><text class="closing-word" x="${x + 6}" y="12">closing</text>`;
-  }
-  if (view.step >= 0) drawn += `<rect class="cursor" x="${view.step * view.wide}" y="0" width="${view.wide}" height="${height}"/>`;
+  const cursor = `<rect class="cursor" x="${view.step * view.wide}" y="0" width="${view.wide}" height="${height}"/>`;
+  let drawn = (view.step >= 0 ? cursor : "") + closing(view);
   for (const id of rows) {
     const ends = `x1="${view.from * view.wide}" x2="${view.to * view.wide}"`;
     drawn += `<line class="lane" ${ends} y1="${barTop(id) + BAR / 2}" y2="${barTop(id) + BAR / 2}"/>`;

@@ -82,6 +82,7 @@ def page_of(story, steps, calls, name, command):
         style=(HERE / "page.css").read_text(), script=(HERE / "page.js").read_text(), data=data_of(story, steps, marked),
         facts="".join(tag("li", text(fact)) for fact in facts(story)),
         verdict=verdict(story, fault) + gone_part(story, calls), notes=notes(story), kind="run" if story.run else "log",
+        unseen=tag("li", "<i>◯</i> reset that went unseen") if marked["unseen"] else "",
         queues=queues_part(story, marked), log=log_part(story, marked),
     )
     return page, fault.why if fault else None
