@@ -72,14 +72,18 @@ def marked_entries(story, fault, calls):
     }
 
 
+def part(name):
+    return (HERE / name).read_text(encoding="utf-8")
+
+
 def page_of(story, steps, calls, name, command):
     """The page of a story, and the sentence on its fault or None."""
     fault = fault_of(story)
     marked = marked_entries(story, fault, calls)
-    template = string.Template((HERE / "page.html").read_text())
+    template = string.Template(part("page.html"))
     page = template.substitute(
         made_by=MADE_BY, name=text(name), command=text(command),
-        style=(HERE / "page.css").read_text(), script=(HERE / "page.js").read_text(), data=data_of(story, steps, marked),
+        style=part("page.css"), script=part("page.js"), data=data_of(story, steps, marked),
         facts="".join(tag("li", text(fact)) for fact in facts(story)),
         verdict=verdict(story, fault) + gone_part(story, calls), notes=notes(story), kind="run" if story.run else "log",
         unseen=tag("li", "<i>◯</i> reset that went unseen") if marked["unseen"] else "",
@@ -92,26 +96,28 @@ def page_of(story, steps, calls, name, command):
 
 def may_write(path):
     """A page of ours may be written over, and nothing else."""
-    if not os.path.lexists(path):
-        return
     try:
-        with open(path, "rb") as file:
-            ours = file.read(len(MADE_BY)) == MADE_BY.encode()
+        if not os.path.lexists(path) or os.path.isfile(path) and begins_as_ours(path):
+            return
     except OSError as error:
         raise Trouble(f"{path}: {error.strerror}: no page is written") from None
-    if not ours:
-        raise Trouble(f"{path}: this file is there already and is no page of ours, so it is not written over: give the page another name")
+    raise Trouble(f"{path}: this is there already and is no page of ours, so it is not written over: give the page another name")
+
+
+def begins_as_ours(path):
+    with open(path, "rb") as file:
+        return file.read(len(MADE_BY)) == MADE_BY.encode()
 
 
 def write(path, page):
     """All of the page or nothing: what is half written never stands under its name."""
-    made = None
+    made, place = None, os.path.realpath(path)
     try:
-        with tempfile.NamedTemporaryFile("w", dir=os.path.dirname(path) or ".", prefix=".page-", delete=False, encoding="utf-8") as file:
+        with tempfile.NamedTemporaryFile(dir=os.path.dirname(place), prefix=".page-", delete=False) as file:
             made = file.name
-            file.write(page)
+            file.write(page.encode(errors="replace"))
         os.chmod(made, 0o666 & ~umask())
-        os.replace(made, path)
+        os.replace(made, place)
     except OSError as error:
         if made:
             os.unlink(made)
