@@ -153,16 +153,23 @@ const drawing = (view) => {
 
 const lanes = { wide: 28, step: -1, least: 3, most: 160, waiting: false };
 
+const MARGIN = 400; // drawn beyond what is visible, at either side
+const PAST = 240; // room for the words of the last bars, where the lanes are scrolled
+
+const allWide = () => {
+  const wide = Math.max(1, data.count) * lanes.wide;
+  return wide > at("scroll").clientWidth + 1 ? wide + PAST : at("scroll").clientWidth;
+};
+
 const redraw = () => {
   lanes.waiting = false;
   const scroll = at("scroll");
   const [left, room] = [scroll.scrollLeft, scroll.clientWidth];
-  const margin = 400;
-  const from = Math.max(0, Math.floor((left - margin) / lanes.wide));
-  const to = Math.min(Math.max(data.count, 1), Math.ceil((left + room + margin) / lanes.wide));
+  const from = Math.max(0, Math.floor((left - MARGIN) / lanes.wide));
+  const to = Math.min(Math.max(data.count, 1), Math.ceil((left + room + MARGIN) / lanes.wide));
   const x = from * lanes.wide;
-  const last = Math.max(data.count, Math.floor(room / lanes.wide)); // words may go on to the right edge
-  const width = Math.max(room, (to - from) * lanes.wide);
+  const last = allWide() / lanes.wide; // words may go on to the right edge
+  const width = Math.min(allWide() - x, room + 2 * MARGIN + lanes.wide);
   at("canvas").innerHTML = `<svg style="left:${x}px" font-size="15" width="${width}" height="${height}" viewBox="${x} 0 ${width} ${height}">` +
     `${drawing({ from, to, wide: lanes.wide, step: lanes.step, left, last, size: 15 })}</svg>`;
 };
@@ -177,7 +184,7 @@ const setWide = (wide) => {
   const scroll = at("scroll");
   const middle = (scroll.scrollLeft + scroll.clientWidth / 2) / lanes.wide;
   lanes.wide = Math.min(lanes.most, Math.max(lanes.least, wide));
-  at("canvas").style.width = `${Math.max(1, data.count) * lanes.wide}px`;
+  at("canvas").style.width = `${allWide()}px`;
   scroll.scrollLeft = middle * lanes.wide - scroll.clientWidth / 2;
   redrawSoon();
 };
@@ -196,7 +203,7 @@ const openLanes = () => {
   at("names").innerHTML = nameRows();
   at("names").style.height = at("canvas").style.height = `${height}px`;
   at("scroll").addEventListener("scroll", redrawSoon, { passive: true });
-  window.addEventListener("resize", redrawSoon);
+  window.addEventListener("resize", () => setWide(lanes.wide));
   at("narrower").addEventListener("click", () => setWide(lanes.wide / 1.4));
   at("wider").addEventListener("click", () => setWide(lanes.wide * 1.4));
   setWide(Math.max(data.steps ? 26 : 3, Math.min(64, at("scroll").clientWidth / Math.max(1, data.count))));
@@ -241,9 +248,9 @@ const fresh = () => ({
 
 const advance = (state) => {
   state.step += 1;
-  const [process, queue, , next, result, bottom, top, tag, ...slots] = data.steps[state.step];
+  const [process, queue, stage, next, result, bottom, top, tag, ...slots] = data.steps[state.step];
   const word = [bottom, top, tag];
-  state.altered = { queue, word: word.map((n, i) => n !== state.words[queue][i]), slots: [] };
+  state.altered = { queue: stage === "idle" ? -1 : queue, word: word.map((n, i) => n !== state.words[queue][i]), slots: [] };
   state.words[queue] = word;
   for (let i = 0; i < slots.length; i += 2) {
     state.slots[queue][slots[i]] = slots[i + 1];
