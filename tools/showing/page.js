@@ -292,6 +292,13 @@ const outcome = (row, next, result) => {
 const marksAt = (step) => bars.filter((bar) => bar.end === step && bar.marks)
   .map((bar) => bar.marks.split(" ").map((mark) => `<b class="mark ${mark}">${data.marks[mark]}</b>`).join("")).join("");
 
+const callAt = (process, step) => {
+  const bar = bars.find((one) => one.process === process && one.start <= step && step <= one.end);
+  if (!bar) return "";
+  const moment = bar.moment < 0 ? "no moment" : `moment ${bar.moment}`;
+  return `<span class="quiet">The call is “${clean(bar.words)}”, from step ${bar.start} to ${bar.end}, with ${moment}.</span>`;
+};
+
 const didAt = (step) => {
   if (step < 0) return `<h3>Before step 0</h3><p>${data.count ? "Every queue is empty and every number 0." : "This run has no steps."}</p>`;
   const [process, queue, stage, next, result] = data.steps[step];
@@ -302,7 +309,7 @@ const didAt = (step) => {
   const numbers = loaded(stage);
   return `<h3>Step ${step} of ${data.count - 1}: process ${process}, ${place} ${closing}${marksAt(step)}</h3>` +
     `<p class="access"><b>${row}</b> ${clean(access)}${then && ` <span class="then">then ${clean(then)}</span>`}</p>` +
-    `<p>${numbers && `With ${numbers}. `}${outcome(row, next, result)}</p>`;
+    `<p>${numbers && `With ${numbers}. `}${outcome(row, next, result)} ${callAt(process, step)}</p>`;
 };
 
 const slotBoxes = (state, queue) => {
