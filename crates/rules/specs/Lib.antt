@@ -10,5 +10,7 @@ pub mod Judge
 pub mod Accepted
 -- Old logs are judged as before.
 pub mod OldLogs
+-- What is left in the queues (C-17).
+pub mod Left
 -- Worked logs, computed.
 pub mod Worked

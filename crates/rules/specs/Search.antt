@@ -1,4 +1,4 @@
--- Searches over indices: the first that passes a test, whether one does, and the lowest key of those that do.
+-- Searches over indices: the first that passes a test, whether one does, the lowest key of those that do, and how many do.
 use Prim.Native.Nat.{ℕ, zero, suc, _+_, _-_}
 use mathlib.Core.Bool.{Bool, cond, _&&_}
 use lib.Dec.{ltb}
@@ -20,3 +20,13 @@ anyFrom p a b = any (λ k. p (a + k)) (suc b - a)
 abbrev pub lowest : (ℕ → Bool) → (ℕ → ℕ) → ℕ → ℕ
 lowest p key zero = 65536
 lowest p key (suc n) = cond (p n && ltb (key n) (lowest p key n)) (key n) (lowest p key n)
+
+-- how many below n pass
+abbrev pub count : (ℕ → Bool) → ℕ → ℕ
+count p zero = 0
+count p (suc n) = cond (p n) (count p n + 1) (count p n)
+
+-- the first n values of g, added up
+abbrev pub sumTo : (ℕ → ℕ) → ℕ → ℕ
+sumTo g zero = 0
+sumTo g (suc n) = sumTo g n + g n

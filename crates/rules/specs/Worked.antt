@@ -7,11 +7,12 @@ use Rattle.log.specs.declared.Entry.{Entry}
 use Rattle.log.specs.declared.What.{What}
 use Rattle.log.specs.declared.What.the-variants.{Pushed, Full, BottomNode, BottomNil, TopNode, TopNil, TopLost}
 use Rattle.log.specs.Numbers.{push, bottomPop, topPop, nil, full, lost, noMoment, kindOf, resultOf}
-use Rattle.log.specs.Decode.{entryAt}
+use Rattle.log.specs.Decode.{entryCountOf, entryAt}
 use Rattle.log.specs.Encode.{headBytes, logBytes}
 use Rattle.rules.specs.declared.Verdict.{Verdict}
 use Rattle.rules.specs.Contents.{before}
 use Rattle.rules.specs.Judge.{says, judgeOf}
+use Rattle.rules.specs.Left.{afterAll, nodesBy, leftOf}
 
 record Case : Type 0 where
   bytes : List ℕ
@@ -206,3 +207,20 @@ worked =
 pub all-right : map (λ c. judgeOf (c .bytes)) worked ≡ map (λ c. c .verdict) worked
 unfolding entryAt before logBytes
 all-right = refl
+
+-- What is left in queue 0, with how many nodes it holds by its calls: of K3's log; of K6's, whose FULL pushed nothing; of logs that break rule 4, where the
+-- contents are what the calls make of them; and of one whose calls have no order.
+abbrev left : List ℕ → List (List ℕ)
+left bytes = leftOf bytes 0 ∷ (nodesBy (entryAt bytes) (entryCountOf bytes) 0 (afterAll (entryAt bytes) (entryCountOf bytes)) ∷ []) ∷ []
+
+pub left-right :
+    map left (
+    bytesOf 3 4 (after-two (call 2 0 TopNode 5 9 12 24 ∷ call 1 0 TopNil 0 6 13 noMoment ∷ []))
+    ∷ bytesOf 1 1 (call 0 0 Pushed 7 0 2 4 ∷ call 0 0 Full 8 3 3 noMoment ∷ [])
+    ∷ bytesOf 2 4 (k4 (call 1 0 TopNode 1 3 24 48))
+    ∷ bytesOf 1 4 (after-two (call 0 0 BottomNode 5 6 9 14 ∷ []))
+    ∷ bytesOf 1 4 (call 0 0 Pushed 7 0 2 4 ∷ call 0 0 Pushed 8 3 5 5 ∷ [])
+    ∷ []
+    ) ≡ ((6 ∷ []) ∷ (1 ∷ []) ∷ []) ∷ ((7 ∷ []) ∷ (1 ∷ []) ∷ []) ∷ ([] ∷ (0 ∷ []) ∷ []) ∷ ((5 ∷ []) ∷ (1 ∷ []) ∷ []) ∷ ([] ∷ (2 ∷ []) ∷ []) ∷ []
+unfolding entryAt before logBytes
+left-right = refl

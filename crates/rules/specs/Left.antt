@@ -1,0 +1,109 @@
+-- C-17. What is left on the table: the nodes that a log leaves in each queue, how often each was pushed and returned, and what follows for every accepted
+-- log. A log is f and n, as in Contents.antt.
+use Prim.Native.Nat.{ℕ, zero, suc, _+_, _-_, _≤_, _<_}
+use mathlib.Core.Path.{_≡_}
+use mathlib.Core.Bool.{Bool, true, cond, _&&_, _||_}
+use mathlib.Core.List.{List, [], _∷_, _++_}
+use lib.Dec.{eqb, ltb, leb}
+use lib.ListN.{length, drop}
+use Rattle.log.specs.declared.Entry.{Entry}
+use Rattle.log.specs.declared.What.the-variants.{Pushed, BottomNode, TopNode}
+use Rattle.log.specs.Numbers.{what, same}
+use Rattle.log.specs.Decode.{entryCountOf, entryAt}
+use Rattle.rules.specs.declared.Left.{Left}
+use Rattle.rules.specs.Search.{count, sumTo}
+use Rattle.rules.specs.Contents.{bears, before}
+use Rattle.rules.specs.Judge.{judgeOf}
+use Rattle.rules.specs.Accepted.{Accepted}
+
+-- an instant after all moments: one more than the greatest, and 0 where there is none
+abbrev pub afterAll : (ℕ → Entry) → ℕ → ℕ
+afterAll f zero = 0
+afterAll f (suc n) = cond (bears (f n) && leb (afterAll f n) (f n .moment)) (suc (f n .moment)) (afterAll f n)
+
+-- the nodes that the log's moments leave in queue q, top first
+abbrev pub leftIn : (ℕ → Entry) → ℕ → ℕ → List ℕ
+leftIn f n q = before f n q (afterAll f n)
+
+-- a done push, and a call that returned a node
+abbrev pub pushes : Entry → Bool
+pushes e = same Pushed (what e)
+
+abbrev pub returns : Entry → Bool
+returns e = same BottomNode (what e) || same TopNode (what e)
+
+-- on queue q, with a moment below m
+abbrev pub onBefore : ℕ → ℕ → Entry → Bool
+onBefore q m e = eqb (e .queue) q && ltb (e .moment) m
+
+-- how many nodes queue q holds just before the instant m, by calls alone: done pushes less calls that returned a node
+abbrev pub pushedBy : (ℕ → Entry) → ℕ → ℕ → ℕ → ℕ
+pushedBy f n q m = count (λ i. pushes (f i) && onBefore q m (f i)) n
+
+abbrev pub returnedBy : (ℕ → Entry) → ℕ → ℕ → ℕ → ℕ
+returnedBy f n q m = count (λ i. returns (f i) && onBefore q m (f i)) n
+
+abbrev pub nodesBy : (ℕ → Entry) → ℕ → ℕ → ℕ → ℕ
+nodesBy f n q m = pushedBy f n q m - returnedBy f n q m
+
+-- how often the node x was pushed, and returned, in the whole log
+abbrev pub timesPushed : (ℕ → Entry) → ℕ → ℕ → ℕ
+timesPushed f n x = count (λ i. pushes (f i) && eqb (f i .node) x) n
+
+abbrev pub timesReturned : (ℕ → Entry) → ℕ → ℕ → ℕ
+timesReturned f n x = count (λ i. returns (f i) && eqb (f i .node) x) n
+
+-- how many of a list pass
+abbrev pub tally : (ℕ → Bool) → List ℕ → ℕ
+tally p [] = 0
+tally p (y ∷ c) = cond (p y) (tally p c + 1) (tally p c)
+
+-- how many places hold x, where queue q, of P queues, holds c q
+abbrev pub placesOf : ℕ → (ℕ → List ℕ) → ℕ → ℕ
+placesOf x c P = sumTo (λ q. tally (λ y. eqb y x) (c q)) P
+
+-- Of every accepted log. Each returned node was pushed before, by moments, on that queue:
+pub record PushedBefore (f : ℕ → Entry) (n : ℕ) (e : Entry) : Type 0 where
+  pub by : ℕ
+  pub below : by < n
+  pub pushed : what (f by) ≡ Pushed
+  pub queue : f by .queue ≡ e .queue
+  pub node : f by .node ≡ e .node
+  pub before : f by .moment < e .moment
+
+abbrev pub ReturnedWasPushed : Type 0
+ReturnedWasPushed = (f : ℕ → Entry) (n P C : ℕ) → Accepted f n P C → (j : ℕ) → j < n → returns (f j) ≡ true → PushedBefore f n (f j)
+
+-- no node is returned twice;
+abbrev pub ReturnedOnce : Type 0
+ReturnedOnce = (f : ℕ → Entry) (n P C : ℕ) → Accepted f n P C → (i j : ℕ) → i < j → j < n → returns (f i) ≡ true → returns (f j) ≡ true
+    → f i .node ≡ f j .node → ⊥
+
+-- at every instant a queue holds as many nodes as were pushed there less those returned;
+abbrev pub HeldIsCounted : Type 0
+HeldIsCounted = (f : ℕ → Entry) (n P C : ℕ) → Accepted f n P C → (q m : ℕ) → length (before f n q m) + returnedBy f n q m ≡ pushedBy f n q m
+
+-- after all moments nothing alters;
+abbrev pub LeftForGood : Type 0
+LeftForGood = (f : ℕ → Entry) (n q m : ℕ) → afterAll f n ≤ m → before f n q m ≡ leftIn f n q
+
+-- and each node that was pushed was pushed once, and was returned once or is left in one place.
+pub record EachInOnePlace (f : ℕ → Entry) (n P : ℕ) (x : ℕ) : Type 0 where
+  pub one : timesPushed f n x ≤ 1
+  pub place : timesPushed f n x ≡ timesReturned f n x + placesOf x (leftIn f n) P
+
+abbrev pub PushedOnceInOnePlace : Type 0
+PushedOnceInOnePlace = (f : ℕ → Entry) (n P C : ℕ) → Accepted f n P C → (x : ℕ) → EachInOnePlace f n P x
+
+-- What `left` gives for a log's bytes and a queue. The judge's 11 to 16 refuse it: the log is not whole, or rules 1 to 3 put its calls in no order.
+abbrev pub unordered : ℕ → Bool
+unordered number = ltb 0 number && ltb number 17
+
+abbrev pub leftOf : List ℕ → ℕ → List ℕ
+leftOf bytes q = cond (unordered (judgeOf bytes .number)) [] (leftIn (entryAt bytes) (entryCountOf bytes) q)
+
+-- The refusal, else 0, and how many nodes are left; they stand in front of the lent numbers, and the rest is as it was.
+pub record LeavesIn (bytes : List ℕ) (q : ℕ) (nodes : List ℕ) (r : Left) (nodes′ : List ℕ) : Type 0 where
+  pub number : r .number ≡ cond (unordered (judgeOf bytes .number)) (judgeOf bytes .number) 0
+  pub count : r .count ≡ length (leftOf bytes q)
+  pub put : nodes′ ≡ leftOf bytes q ++ drop (length (leftOf bytes q)) nodes
