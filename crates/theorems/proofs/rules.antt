@@ -1,3 +1,4 @@
 pub mod Accepted
+pub mod Left
 pub mod Room
 pub mod Rules

@@ -33,7 +33,7 @@ logOf f = record { P = length (f .shares); C = f .size; entries = closed f .log 
 
 -- it keeps the rules
 module _ (f : RunFile) (w : InRanges f) (gone : closed f .bench .gone ≡ 0) where
-  held : Inv (sizesOf f) (closed f) × Room (sizesOf f) (closed f)
+  pub held : Inv (sizesOf f) (closed f) × Room (sizesOf f) (closed f)
   held =
       let z = start-fresh f w in
       kept (sizesOf f) (fit f w) (ByScript f) (start f) z (Room (sizesOf f)) (room-fresh (sizesOf f) (fit f w) (start f) z) (room-idle (sizesOf f))
@@ -45,7 +45,7 @@ module _ (f : RunFile) (w : InRanges f) (gone : closed f .bench .gone ≡ 0) whe
       le : {n : ℕ} → n ≤ 4096 + 48 → n ≤ 32767
       le h = omega arith
 
-  all-idle : (p : ℕ) → processAt (closed f .bench) p .stage ≡ Idle
+  pub all-idle : (p : ℕ) → processAt (closed f .bench) p .stage ≡ Idle
   all-idle p = idle-is (processAt (closed f .bench) p .stage) (all-closed-idle f p)
 
   pub log-accepted : AcceptedLog (logOf f)

@@ -1,0 +1,106 @@
+-- C-17. What is left on the table, of every closed run without gone-round takes: of the bytes of its log and the numbers of its table. The condition that
+-- is enough for gone-round to be 0 stands in Tags.antt.
+use Prim.Native.Nat.{ℕ, _+_, _-_, _*_, _≤_, _<_}
+use mathlib.Core.Path.{_≡_, refl}
+use mathlib.Core.List.{List, [], _∷_, _++_, map}
+use lib.ListN.{length, getD, take, replicate}
+use Rattle.base.specs.Bytes.{Bytes}
+use Rattle.base.specs.Lists.{listOf}
+use Rattle.log.specs.Decode.{processesOf, slotsOf, entryCountOf, entryAt}
+use Rattle.log.specs.Encode.{logBytes}
+use Rattle.rules.specs.Contents.{before}
+use Rattle.rules.specs.Left.{afterAll, leftIn, nodesBy, timesPushed, timesReturned, placesOf}
+use Rattle.runs.specs.Run.{Outcome, tableRowLength, runOf}
+use Rattle.runs.specs.Worked.{Case, room, K1, K2, K3, K4, K5, K6}
+
+-- the table's bottom, top and slot i of queue q
+abbrev pub bottomIn : List ℕ → ℕ → ℕ
+bottomIn table q = getD table (tableRowLength * q) 0
+
+abbrev pub topIn : List ℕ → ℕ → ℕ
+topIn table q = getD table (tableRowLength * q + 1) 0
+
+abbrev pub slotIn : List ℕ → ℕ → ℕ → ℕ
+slotIn table q i = getD table (tableRowLength * q + 3 + i) 0
+
+-- what the slots from top up to bottom hold, in order
+abbrev pub onTable : List ℕ → ℕ → List ℕ
+onTable table q = listOf (bottomIn table q - topIn table q) (λ i. slotIn table q (topIn table q + i))
+
+-- the nodes that the log's moments leave in queue q
+abbrev pub leftBy : List ℕ → ℕ → List ℕ
+leftBy log q = leftIn (entryAt log) (entryCountOf log) q
+
+-- in queue q,
+pub record LeftHere (log table : List ℕ) (q : ℕ) : Type 0 where
+  -- the slots from top up to bottom hold, in order, exactly the nodes that the log's moments leave there,
+  pub here : onTable table q ≡ leftBy log q
+  -- top being at most bottom, and bottom at most C;
+  pub ordered : topIn table q ≤ bottomIn table q
+  pub within : bottomIn table q ≤ slotsOf log
+  -- none when bottom equals top, and only then;
+  pub none : bottomIn table q ≡ topIn table q → leftBy log q ≡ []
+  pub only-then : leftBy log q ≡ [] → bottomIn table q ≡ topIn table q
+  -- and the count of left nodes, taken from the log, is bottom less top.
+  pub counted : nodesBy (entryAt log) (entryCountOf log) q (afterAll (entryAt log) (entryCountOf log)) ≡ bottomIn table q - topIn table q
+
+-- The nodes with a done push are those returned plus those left, each in one place: of every node x, done pushes are the times it was returned plus
+-- the places left that hold it, and at most one.
+pub record PushedReturnedLeft (log table : List ℕ) (x : ℕ) : Type 0 where
+  pub one : timesPushed (entryAt log) (entryCountOf log) x ≤ 1
+  pub place : timesPushed (entryAt log) (entryCountOf log) x
+      ≡ timesReturned (entryAt log) (entryCountOf log) x + placesOf x (onTable table) (processesOf log)
+
+pub record LeftOnTable (log table : List ℕ) : Type 0 where
+  pub queues : (q : ℕ) → q < processesOf log → LeftHere log table q
+  pub nodes : (x : ℕ) → PushedReturnedLeft log table x
+
+abbrev pub EveryRunLeaves : Type 0
+EveryRunLeaves = (file : List ℕ) → Bytes file → (room : ℕ) → runOf file room .number ≡ 0 → runOf file room .gone ≡ 0
+    → LeftOnTable (runOf file room .log) (runOf file room .table)
+
+-- Computed: of each of the first three queues, what is on the table, what the log leaves, and how many by its calls.
+abbrev found : Outcome → ℕ → List (List ℕ)
+found o q =
+    onTable (o .table) q ∷ leftBy (o .log) q
+    ∷ (nodesBy (entryAt (o .log)) (entryCountOf (o .log)) q (afterAll (entryAt (o .log)) (entryCountOf (o .log))) ∷ []) ∷ []
+
+abbrev leaves : List ℕ → List (List ℕ)
+leaves nodes = nodes ∷ nodes ∷ (length nodes ∷ []) ∷ []
+
+-- C = 3 and three processes: 0 pushes 1, 2 and 3, pops, pushes 4; 1 pushes 11, 12 and 13, has FULL for 14, takes 1; 2 pushes 21, pops twice, pushes 22,
+-- takes 11
+abbrev three : List ℕ
+three =
+    2 ∷ 16 ∷ 3 ∷ 3 ∷ 5 ∷ 5 ∷ 5 ∷ 0 ∷ 15
+    ∷ 1 ∷ 0 ∷ 1 ∷ 1 ∷ 0 ∷ 2 ∷ 1 ∷ 0 ∷ 3 ∷ 2 ∷ 0 ∷ 0 ∷ 1 ∷ 0 ∷ 4
+    ∷ 1 ∷ 0 ∷ 11 ∷ 1 ∷ 0 ∷ 12 ∷ 1 ∷ 0 ∷ 13 ∷ 1 ∷ 0 ∷ 14 ∷ 3 ∷ 0 ∷ 0
+    ∷ 1 ∷ 0 ∷ 21 ∷ 2 ∷ 0 ∷ 0 ∷ 2 ∷ 0 ∷ 0 ∷ 1 ∷ 0 ∷ 22 ∷ 3 ∷ 0 ∷ 1
+    ∷ 0 ∷ 46 ∷ replicate 16 0 ++ replicate 14 1 ++ replicate 16 2
+
+pub worked : map (λ (k : Case). found (runOf (k .file) (room k)) 0) (K1 ∷ K2 ∷ K3 ∷ K5 ∷ K6 ∷ [])
+    ≡ leaves [] ∷ leaves [] ∷ leaves (6 ∷ []) ∷ leaves (3 ∷ []) ∷ leaves (7 ∷ []) ∷ []
+unfolding runOf logBytes entryAt before
+worked = refl
+
+pub worked-three : map (found (runOf three 185)) (0 ∷ 1 ∷ 2 ∷ []) ≡ leaves (2 ∷ 4 ∷ []) ∷ leaves (12 ∷ 13 ∷ []) ∷ leaves (22 ∷ []) ∷ []
+unfolding runOf logBytes entryAt before
+worked-three = refl
+
+-- K4's gone-round take: node 1 is returned twice, and node 3 neither returned nor left
+abbrev times : Outcome → ℕ → List ℕ
+times o x =
+    timesPushed (entryAt (o .log)) (entryCountOf (o .log)) x ∷ timesReturned (entryAt (o .log)) (entryCountOf (o .log)) x
+    ∷ placesOf x (onTable (o .table)) (processesOf (o .log)) ∷ []
+
+pub gone-round : map (times (runOf (K4 .file) (room K4))) (1 ∷ 3 ∷ []) ≡ (1 ∷ 2 ∷ 0 ∷ []) ∷ (1 ∷ 0 ∷ 0 ∷ []) ∷ []
+unfolding runOf logBytes entryAt
+gone-round = refl
+
+-- and with its T4 before the last push the log leaves node 3, which is not between top and bottom
+abbrev earlier : List ℕ
+earlier = take 28 (K4 .file) ++ (0 ∷ 0 ∷ 0 ∷ 1 ∷ 1 ∷ 1 ∷ []) ++ replicate 15 0 ++ (1 ∷ 0 ∷ 0 ∷ 0 ∷ [])
+
+pub gone-round-earlier : found (runOf earlier (room K4)) 0 ≡ [] ∷ (3 ∷ []) ∷ (0 ∷ []) ∷ []
+unfolding runOf logBytes entryAt before
+gone-round-earlier = refl
