@@ -8,6 +8,7 @@ pub mod EndLaws
 pub mod OrderLaws
 pub mod ReplayLaws
 pub mod RowLaws
+pub mod LeavesLaws
 pub mod ShelfLaws
 pub mod CauseLaws
 pub mod FullLaws

@@ -5,6 +5,11 @@ use Prim.Native.Nat.{ℕ}
 use Rattle.base.proofs.Settled.{one-value}
 use Rattle.rules.specs.declared.Verdict.{Verdict}
 use Rattle.rules.specs.Judge.{judgeOf}
+use Rattle.rules.specs.Left.{Leaves}
 
 pub judge : (bytes : List ℕ) (r s : Verdict) → r ≡ judgeOf bytes → s ≡ judgeOf bytes → r ≡ s
 judge bytes r s = one-value
+
+-- the number, how many nodes, and every lent number
+pub left : (bytes : List ℕ) (q n n′ c c′ : ℕ) (x x′ : List ℕ) → Leaves bytes q n c x → Leaves bytes q n′ c′ x′ → (n ≡ n′) × (c ≡ c′) × (x ≡ x′)
+left bytes q n n′ c c′ x x′ p r = (one-value (p .refused) (r .refused), one-value (p .counted) (r .counted), one-value (p .put) (r .put))

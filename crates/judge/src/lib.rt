@@ -12,7 +12,10 @@ mod order; // rule 3, and the calls by rising moment
 mod replay; // rule 4
 mod causes; // rule 5
 mod full; // rule 6
+mod leaves; // what is left in a queue
 
+pub use crate::leaves::Remaining;
+pub use crate::leaves::left;
 pub use rules::Verdict;
 
 fn verdict_of(number: u8, j: usize) -> Verdict

@@ -17,9 +17,9 @@ use crate::read::entry;
 use log::What;
 
 // Where a queue's nodes begin and end.
-struct Ends {
-    lo: usize,
-    hi: usize,
+pub(crate) struct Ends {
+    pub(crate) lo: usize,
+    pub(crate) hi: usize,
 }
 
 // Whether a node is among the first of those that were pushed. It looks at all of them, without a test to leave, so that many are compared at once.
@@ -64,8 +64,8 @@ fn lawful(nodes: &[u16], lo: usize, hi: usize, did: What, node: u16, fresh: bool
     }
 }
 
-// What a lawful call makes of its queue's ends.
-fn moved(lo: usize, hi: usize, did: What) -> Ends
+// What a call makes of its queue's ends.
+pub(crate) fn moved(lo: usize, hi: usize, did: What) -> Ends
     requires { ⌜ (lo ≤ hi) × (hi < 2 ^ 32) ⌝ }
     ensures { λ r. ⌜ (r .lo ≡ loAfter did lo hi) × (r .hi ≡ hiAfter did lo hi) ⌝ }
 {

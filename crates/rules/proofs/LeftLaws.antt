@@ -1,28 +1,31 @@
 -- Of an accepted log: at each instant the nodes of a queue are those pushed there and not returned, node by node; so each returned node was pushed before,
 -- none is returned twice, and each pushed one is returned or left, in one place.
 use mathlib.Core.Path.{_≡_, refl, sym, ap, _∙_, subst}
-use mathlib.Core.Bool.{Bool, true, false, cond, _&&_, _||_}
+use mathlib.Core.Bool.{Bool, true, false, cond, _&&_, _||_, not}
 use mathlib.Core.List.{List, [], _∷_, _++_}
-use Prim.Native.Nat.{ℕ, zero, suc, _+_, _-_, _≤_, _<_}
+use Prim.Native.Nat.{ℕ, zero, suc, _+_, _-_, _*_, _≤_, _<_}
 use native.Mathlib.Omega.{arith}
 use native.Mathlib.Decide.{decLt, ℕ-discrete}
-use borrow.Author.Tests.{lt-ltb, le-ltb, ltb-true, eq-eqb, eqb-true, leb-true, leb-false}
+use borrow.Author.Tests.{lt-ltb, le-ltb, ltb-true, ltb-false, eq-eqb, eqb-true, leb-true, leb-false}
 use lib.Dec.{eqb, ltb, leb}
 use lib.ListN.{length}
 use Rattle.log.specs.declared.Entry.{Entry}
 use Rattle.log.specs.declared.What.{What}
 use Rattle.log.specs.declared.What.the-variants.{Pushed, Full, BottomNode, BottomNil, TopNode, TopNil}
 use Rattle.log.specs.Numbers.{what, same, bearsMoment}
+use Rattle.log.specs.Decode.{sectionCountOf, processesOf, slotsOf, entryCountOf, entryAt}
 use Rattle.log.proofs.NumbersLaws.{same-true}
 use Rattle.rules.specs.Search.{count, sumTo}
 use Rattle.rules.specs.Contents.{bears, dropLast, applied, on, happens, eventAt, before}
+use Rattle.rules.specs.Judge.{says, first1, first2, first3, first4, first5, first6, orElse, judgeOf}
 use Rattle.rules.specs.Accepted.{Rule4, Accepted}
-use Rattle.rules.specs.Left.{afterAll, leftIn, pushes, returns, onBefore, tally, PushedBefore, ReturnedWasPushed, ReturnedOnce, HeldIsCounted, LeftForGood, EachInOnePlace, PushedOnceInOnePlace}
+use Rattle.rules.specs.Left.{afterAll, leftIn, pushes, returns, onBefore, tally, PushedBefore, ReturnedWasPushed, ReturnedOnce, HeldIsCounted, LeftForGood, EachInOnePlace, PushedOnceInOnePlace, unordered}
 use Rattle.base.proofs.Bools.{contra, and-i, and-0, and-1, or-e, by-both, not-so, guarded}
-use Rattle.base.proofs.Cases.{if-lt, either-way}
+use Rattle.base.proofs.Cases.{ever, if-lt, either-way}
 use Rattle.rules.proofs.SearchLaws.{first-is, Found, none-passes}
 use Rattle.rules.proofs.KeptLaws.{Distinct}
 use Rattle.rules.proofs.ContentLaws.{before-still}
+use Rattle.rules.proofs.VerdictLaws.{headOf, few}
 use Rattle.rules.proofs.CountLaws.{one, count-none, count-same, count-at, count-found, count-two, count-one, sum-same, sum-add, count-shared}
 
 -- all moments are below the instant after them
@@ -318,3 +321,39 @@ held-is-counted f n P C a q m =
         by : (s r : Bool) → (s && true && r) ≡ (s && r)
         by true r = refl
         by false r = refl
+
+-- a log that is not refused is whole, and all its entries keep rule 3
+pub record InOrder (bytes : List ℕ) : Type 0 where
+  pub few : entryCountOf bytes ≤ 256
+  pub sized : length bytes ≡ 5 + 12 * entryCountOf bytes
+  pub rule3 : entryCountOf bytes ≤ first3 (entryAt bytes) (entryCountOf bytes)
+
+pub in-order : (bytes : List ℕ) → unordered (judgeOf bytes .number) ≡ false → InOrder bytes
+in-order bytes = by (ltb (length bytes) 5) refl (headOf bytes) refl (ltb (length bytes) (5 + 12 * n)) refl (ltb (5 + 12 * n) (length bytes)) refl
+    (ltb (first1 f n (processesOf bytes)) n) refl (ltb (first2 f n) n) refl (ltb (first3 f n) n) refl
+  where
+    n : ℕ
+    n = entryCountOf bytes
+
+    f : ℕ → Entry
+    f = entryAt bytes
+
+    by : (s : Bool) → ltb (length bytes) 5 ≡ s → (t : Bool) → headOf bytes ≡ t → (u : Bool) → ltb (length bytes) (5 + 12 * n) ≡ u
+        → (v : Bool) → ltb (5 + 12 * n) (length bytes) ≡ v → (a : Bool) → ltb (first1 f n (processesOf bytes)) n ≡ a → (b : Bool) → ltb (first2 f n) n ≡ b
+        → (d : Bool) → ltb (first3 f n) n ≡ d
+        → unordered (cond s (says 11 0) (cond (not t) (says 12 0) (cond u (says 11 0) (cond v (says 13 0)
+        (cond a (says 14 (first1 f n (processesOf bytes))) (cond b (says 15 (first2 f n)) (cond d (says 16 (first3 f n))
+        (orElse n 17 (first4 f n) (orElse n 18 (first5 f n) (orElse n 19 (first6 f n (slotsOf bytes)) (says 0 0)))))))))) .number) ≡ false
+        → InOrder bytes
+    by true _ t _ u _ v _ a _ b _ d _ z = ever z
+    by false _ false _ u _ v _ a _ b _ d _ z = ever z
+    by false _ true _ true _ v _ a _ b _ d _ z = ever z
+    by false _ true _ false _ true _ a _ b _ d _ z = ever z
+    by false _ true _ false _ false _ true _ b _ d _ z = ever z
+    by false _ true _ false _ false _ false _ true _ d _ z = ever z
+    by false _ true _ false _ false _ false _ false _ true _ z = ever z
+    by false _ true h false k false l false _ false _ false g z = record {
+      few = few (sectionCountOf bytes) (processesOf bytes) (slotsOf bytes) n h .0;
+      sized = omega (arith, ltb-false (length bytes) (5 + 12 * n) k, ltb-false (5 + 12 * n) (length bytes) l);
+      rule3 = ltb-false (first3 f n) n g;
+    }

@@ -5,12 +5,12 @@ use mathlib.Core.Path.{_≡_}
 use mathlib.Core.Bool.{Bool, true, cond, _&&_, _||_}
 use mathlib.Core.List.{List, [], _∷_, _++_}
 use lib.Dec.{eqb, ltb, leb}
-use lib.ListN.{length, drop}
+use lib.ListN.{length, replicate}
 use Rattle.log.specs.declared.Entry.{Entry}
 use Rattle.log.specs.declared.What.the-variants.{Pushed, BottomNode, TopNode}
 use Rattle.log.specs.Numbers.{what, same}
 use Rattle.log.specs.Decode.{entryCountOf, entryAt}
-use Rattle.rules.specs.declared.Left.{Left}
+use Rattle.log.specs.Encode.{mostEntries}
 use Rattle.rules.specs.Search.{count, sumTo}
 use Rattle.rules.specs.Contents.{bears, before}
 use Rattle.rules.specs.Judge.{judgeOf}
@@ -97,13 +97,13 @@ PushedOnceInOnePlace = (f : ℕ → Entry) (n P C : ℕ) → Accepted f n P C �
 
 -- What `left` gives for a log's bytes and a queue. The judge's 11 to 16 refuse it: the log is not whole, or rules 1 to 3 put its calls in no order.
 abbrev pub unordered : ℕ → Bool
-unordered number = ltb 0 number && ltb number 17
+unordered number = ltb 0 number && leb number 16
 
 abbrev pub leftOf : List ℕ → ℕ → List ℕ
 leftOf bytes q = cond (unordered (judgeOf bytes .number)) [] (leftIn (entryAt bytes) (entryCountOf bytes) q)
 
--- The refusal, else 0, and how many nodes are left; they stand in front of the lent numbers, and the rest is as it was.
-pub record LeavesIn (bytes : List ℕ) (q : ℕ) (nodes : List ℕ) (r : Left) (nodes′ : List ℕ) : Type 0 where
-  pub number : r .number ≡ cond (unordered (judgeOf bytes .number)) (judgeOf bytes .number) 0
-  pub count : r .count ≡ length (leftOf bytes q)
-  pub put : nodes′ ≡ leftOf bytes q ++ drop (length (leftOf bytes q)) nodes
+-- The refusal, else 0, and how many nodes are left; they stand in front of 256 lent numbers, and 0 in all the others.
+pub record Leaves (bytes : List ℕ) (q number count : ℕ) (nodes : List ℕ) : Type 0 where
+  pub refused : number ≡ cond (unordered (judgeOf bytes .number)) (judgeOf bytes .number) 0
+  pub counted : count ≡ length (leftOf bytes q)
+  pub put : nodes ≡ leftOf bytes q ++ replicate (mostEntries - length (leftOf bytes q)) 0

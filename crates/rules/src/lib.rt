@@ -5,9 +5,3 @@ pub struct Verdict {
     pub number: u8,
     pub entry: u16,
 }
-
-// What is left in a queue: the judge's number where the log's calls have no order, else 0; and how many nodes.
-pub struct Left {
-    pub number: u8,
-    pub count: u16,
-}

@@ -1,9 +1,15 @@
 -- A queue's nodes between two places of a row, and what a call makes of them.
+use mathlib.Core.Path.{_≡_}
 use mathlib.Core.Bool.{cond}
-use Prim.Native.Nat.{ℕ, _+_, _-_}
+use mathlib.Core.List.{List}
+use Prim.Native.Nat.{ℕ, _+_, _-_, _≤_}
 use lib.Dec.{leb}
+use lib.ListN.{length}
+use lib.Seq.{slice}
+use Rattle.log.specs.declared.Entry.{Entry}
 use Rattle.log.specs.declared.What.{What}
 use Rattle.log.specs.declared.What.the-variants.{Pushed, Full, BottomNode, BottomNil, TopNode, TopNil, TopLost}
+use Rattle.rules.specs.Left.{leftIn}
 
 abbrev pub loAfter : What → ℕ → ℕ → ℕ
 loAfter Pushed lo hi = lo
@@ -22,3 +28,10 @@ hiAfter BottomNil lo hi = hi
 hiAfter TopNode lo hi = hi
 hiAfter TopNil lo hi = hi
 hiAfter TopLost lo hi = hi
+
+-- the nodes that a log leaves in queue q lie from lo up to hi in a row of 256
+pub record LiesIn (f : ℕ → Entry) (n q : ℕ) (row : List ℕ) (lo hi : ℕ) : Type 0 where
+  pub holds : slice lo hi row ≡ leftIn f n q
+  pub low : lo ≤ hi
+  pub high : hi ≤ 256
+  pub long : length row ≡ 256

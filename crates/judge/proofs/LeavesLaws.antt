@@ -1,0 +1,117 @@
+-- The replay of one queue in a row of 256: what a call makes of it, and what is left after all of them.
+use mathlib.Core.Path.{_≡_, sym, ap, _∙_, subst}
+use mathlib.Core.Bool.{Bool, true, false, cond}
+use mathlib.Core.List.{List, [], _∷_, _++_}
+use Prim.Native.Nat.{ℕ, zero, suc, _+_, _-_, _≤_, _<_}
+use native.Mathlib.Numerals.{add-one}
+use native.Mathlib.Omega.{arith}
+use lib.ListN.{length, getD, set, take, drop, replicate, length-set}
+use lib.Seq.{slice, slice-empty, paste-suc, take-nil}
+use Rattle.log.specs.declared.Entry.{Entry}
+use Rattle.log.specs.Numbers.{what}
+use Rattle.log.specs.Decode.{entryCountOf, entryAt}
+use Rattle.rules.specs.Contents.{before, applied}
+use Rattle.rules.specs.declared.Verdict.{Verdict}
+use Rattle.rules.specs.Judge.{judgeOf}
+use Rattle.rules.specs.Left.{afterAll, leftIn, unordered, leftOf, Leaves}
+use Rattle.rules.proofs.ContentLaws.{before-start}
+use Rattle.rules.proofs.LeftLaws.{left-for-good, InOrder, in-order}
+use Rattle.judge.specs.inner.Order.{indexAt, instant, Ordered}
+use Rattle.judge.specs.inner.Replay.{loAfter, hiAfter, LiesIn}
+use Rattle.judge.proofs.ReplayLaws.{still, other-is, own-is}
+use Rattle.judge.proofs.RowLaws.{moved-is, bounds}
+
+-- after the first k moments
+pub record Lying (f : ℕ → Entry) (n : ℕ) (keys : List ℕ) (k q : ℕ) (row : List ℕ) (lo hi : ℕ) : Type 0 where
+  pub holds : slice lo hi row ≡ before f n q (instant keys k)
+  pub low : lo ≤ hi
+  pub high : hi ≤ k
+  pub long : length row ≡ 256
+
+pub lying-start : (f : ℕ → Entry) (n : ℕ) (keys : List ℕ) (q : ℕ) (row : List ℕ) → length row ≡ 256 → Lying f n keys 0 q row 0 0
+lying-start f n keys q row h = record { holds = slice-empty 0 row ∙ sym (before-start f n q); low = omega arith; high = omega arith; long = h }
+
+module _ (f : ℕ → Entry) (n : ℕ) (keys : List ℕ) (count : ℕ) (o : Ordered f n keys count) (q : ℕ) (row : List ℕ) (lo hi : ℕ) where
+  module _ (k : ℕ) (u : k < count) (h : Lying f n keys k q row lo hi) (e : Entry) (is : e ≡ f (indexAt keys k)) where
+    pub lying-other : (e .queue ≡ q → ⊥) → Lying f n keys (k + 1) q row lo hi
+    lying-other ne = record {
+      holds = h .holds ∙ sym (other-is f n keys count o q k u (λ d. ne (ap (λ (x : Entry). x .queue) is ∙ d)))
+          ∙ ap (λ (x : ℕ). before f n q (instant keys x)) (sym (add-one k));
+      low = h .low;
+      high = omega (arith, h .high);
+      long = h .long;
+    }
+
+    pub lying-own : e .queue ≡ q → hi < length row → Lying f n keys (k + 1) q (set row hi (e .node)) (loAfter (what e) lo hi) (hiAfter (what e) lo hi)
+    lying-own d room = let b = bounds (what e) lo hi (h .low) in record {
+      holds = moved-is (what e) row lo hi (e .node) (h .low) room ∙ ap (applied (what e) (e .node)) (h .holds) ∙ sym after
+          ∙ ap (λ (x : ℕ). before f n q (instant keys x)) (sym (add-one k));
+      low = b .low;
+      high = omega (arith, b .high, h .high);
+      long = length-set row hi (e .node) ∙ h .long;
+    }
+      where
+        after : before f n q (instant keys (suc k)) ≡ applied (what e) (e .node) (before f n q (instant keys k))
+        after = subst (λ (x : Entry). x .queue ≡ q → before f n q (instant keys (suc k)) ≡ applied (what x) (x .node) (before f n q (instant keys k))) (sym is)
+            (λ c. subst (λ (p : ℕ). before f n p (instant keys (suc k)) ≡ applied (what (f (indexAt keys k))) (f (indexAt keys k) .node) (before f n p (instant keys k))) c
+            (own-is f n keys count o k u)) d
+
+  -- after all moments
+  pub lies : n ≤ 256 → Lying f n keys count q row lo hi → LiesIn f n q row lo hi
+  lies small h = record {
+    holds = h .holds ∙ sym (still f n keys count o q count (instant keys count + afterAll f n) (omega arith) (λ u. absurd (omega arith)) (omega arith))
+        ∙ left-for-good f n q (instant keys count + afterAll f n) (omega arith);
+    low = h .low;
+    high = omega (arith, h .high, o .few);
+    long = h .long;
+  }
+
+-- the first i of s in front of what is left of d: one more
+pub copied-next : (s d : List ℕ) (i : ℕ) → i < length s → i < length d → set (take i s ++ drop i d) i (getD s i 0) ≡ take (i + 1) s ++ drop (i + 1) d
+copied-next s d i u v =
+    let e : i ≡ 0 + i = omega arith in
+    let g : 0 + suc i ≡ suc i = omega arith in
+    ap (λ (k : ℕ). set (take i s ++ drop k d) k (getD s i 0)) e ∙ paste-suc d 0 s i 0 (omega arith) u ∙ ap (λ (k : ℕ). take (suc i) s ++ drop k d) g
+    ∙ ap (λ (k : ℕ). take k s ++ drop k d) (sym (add-one i))
+
+-- a part of a row, cut in the other order
+pub part-is : (row : List ℕ) (lo hi : ℕ) → lo ≤ hi → take (hi - lo) (drop lo row) ≡ slice lo hi row
+part-is row lo zero h = let e : lo ≡ 0 = omega arith in rw e
+part-is row zero (suc hi) h = let e : suc hi - 0 ≡ suc hi = omega arith in rw e
+part-is [] (suc lo) (suc hi) h = take-nil (suc hi - suc lo)
+part-is (x ∷ row) (suc lo) (suc hi) h = let e : suc hi - suc lo ≡ hi - lo = omega arith in rw e (part-is row lo hi (omega arith))
+
+-- zeros, less some
+pub zeros-less : (m n : ℕ) → m ≤ n → drop {A = ℕ} m (replicate n 0) ≡ replicate (n - m) 0
+zeros-less zero n h = let e : n - 0 ≡ n = omega arith in rw e
+zeros-less (suc m) zero h = absurd (omega arith)
+zeros-less (suc m) (suc n) h = let e : suc n - suc m ≡ n - m = omega arith in rw e (zeros-less m n (omega arith))
+
+-- what is given for a log that is refused, and for one that is not
+module _ (bytes : List ℕ) (q : ℕ) (v : Verdict) (is : v ≡ judgeOf bytes) where
+  pub leaves-none : unordered (v .number) ≡ true → Leaves bytes q (v .number) 0 (replicate 256 0)
+  leaves-none t =
+      let r : unordered (judgeOf bytes .number) ≡ true = ap (λ (w : Verdict). unordered (w .number)) (sym is) ∙ t in
+      let none : [] ≡ leftOf bytes q = sym (ap (λ (s : Bool). cond s [] (leftIn (entryAt bytes) (entryCountOf bytes) q)) r) in
+      record {
+        refused = sym (ap (λ (s : Bool). cond s (judgeOf bytes .number) 0) r ∙ ap (λ (w : Verdict). w .number) (sym is));
+        counted = ap length none;
+        put = ap (λ (x : List ℕ). x ++ replicate (256 - length x) 0) none;
+      }
+
+  module _ (t : unordered (v .number) ≡ false) where
+    free : unordered (judgeOf bytes .number) ≡ false
+    free = ap (λ (w : Verdict). unordered (w .number)) (sym is) ∙ t
+
+    pub whole-log : InOrder bytes
+    whole-log = in-order bytes free
+
+    pub leaves-some : (part : List ℕ) (c : ℕ) → part ≡ leftIn (entryAt bytes) (entryCountOf bytes) q → c ≡ length part → length part ≤ 256
+        → Leaves bytes q 0 c (part ++ drop (length part) (replicate 256 0))
+    leaves-some part c e l few =
+        let p : part ≡ leftOf bytes q = e ∙ sym (ap (λ (s : Bool). cond s [] (leftIn (entryAt bytes) (entryCountOf bytes) q)) free) in
+        record {
+          refused = sym (ap (λ (s : Bool). cond s (judgeOf bytes .number) 0) free);
+          counted = l ∙ ap length p;
+          put = ap (λ (x : List ℕ). part ++ x) (zeros-less (length part) 256 few) ∙ ap (λ (x : List ℕ). x ++ replicate (256 - length x) 0) p;
+        }

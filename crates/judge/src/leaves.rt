@@ -1,0 +1,95 @@
+// What is left in a queue: its calls by rising moment, from an empty row. The nodes lie from lo, the top, up to hi.
+ghost use mathlib.Core.Path.{_≡_};
+ghost use mathlib.Core.List.{_++_};
+ghost use Prim.Native.Nat.{_≤_};
+ghost use lib.ListN.{length, drop};
+ghost use Rattle.log.specs.Decode.{entryAt};
+ghost use Rattle.rules.specs.Left.{Leaves};
+ghost use Rattle.judge.specs.inner.Order.{Ordered, Whole};
+ghost use Rattle.judge.specs.inner.Replay.{LiesIn};
+use crate::fields::what;
+use crate::judge;
+use crate::order::by_moment;
+use crate::read::entry;
+use crate::replay::Ends;
+use crate::replay::moved;
+
+// The judge's number where the log's calls have no order, else 0; and how many nodes are left.
+pub struct Remaining {
+    pub number: u8,
+    pub count: u16,
+}
+
+// The judge's numbers up to this one say that the log is not whole, or that rules 1 to 3 put its calls in no order.
+const LAST_UNORDERED: u8 = 16;
+
+// The node of every call is put above the bottom; only a push then moves the bottom over it.
+fn replayed(
+    log: &[u8],
+    n: usize,
+    queue: u8,
+    keys: &[usize; 256],
+    count: usize,
+    row: &mut [u16; 256],
+) -> Ends
+    requires { ⌜ (n ≤ 256) × Ordered (entryAt (now log)) n (now keys) count × Whole (now log) n × (length (now row) ≡ 256) ⌝ }
+    ensures { λ r. ⌜ LiesIn (entryAt (now (log .entry))) n queue (now (row .exit)) (r .lo) (r .hi) ⌝ }
+{
+    let mut lo: usize = 0;
+    let mut hi: usize = 0;
+    let mut k: usize = 0;
+    while k < count {
+        let key = keys[k];
+        let j = key % 256;
+        let e = entry(log, j);
+        k = k + 1;
+        if e.queue != queue {
+            continue;
+        }
+        let ends = moved(lo, hi, what(e));
+        row[hi] = e.node;
+        lo = ends.lo;
+        hi = ends.hi;
+    }
+    Ends { lo: lo, hi: hi }
+}
+
+// Puts some nodes in front of others.
+fn put(part: &[u16], nodes: &mut [u16; 256])
+    requires { ⌜ (length (now part) ≤ 256) × (length (now nodes) ≡ 256) ⌝ }
+    ensures { λ _. ⌜ now (nodes .exit) ≡ now (part .entry) ++ drop (length (now (part .entry))) (now (nodes .entry)) ⌝ }
+{
+    let mut i: usize = 0;
+    while i < part.len() {
+        nodes[i] = part[i];
+        i = i + 1;
+    }
+}
+
+// The nodes that a log leaves in a queue, top first, and 0 after them; of any bytes.
+pub fn left(log: &[u8], queue: u8, nodes: &mut [u16; 256]) -> Remaining
+    ensures { λ r. ⌜ Leaves (now (log .entry)) queue (r .number) (r .count) (now (nodes .exit)) ⌝ }
+{
+    *nodes = [0; 256];
+    let verdict = judge(log);
+    let number = verdict.number;
+    if (0 < number) & (number <= LAST_UNORDERED) {
+        return Remaining {
+            number: number,
+            count: 0,
+        };
+    }
+    let n = base::number_at(log, 3) as usize;
+    let mut keys: [usize; 256] = [0; 256];
+    let sorted = by_moment(log, n, &mut keys);
+    let mut row: [u16; 256] = [0; 256];
+    let ends = replayed(log, n, queue, &keys, sorted.count, &mut row);
+    let lo = ends.lo;
+    let hi = ends.hi;
+    let count = hi - lo;
+    put(&row[lo..hi], nodes);
+    Remaining {
+        number: 0,
+        count: count as u16,
+    }
+}
