@@ -1,3 +1,4 @@
 pub mod OneWord
 pub mod RunThenJudge
+pub mod RunThenLeft
 pub mod ShutOut

@@ -9,7 +9,8 @@ use Rattle.base.specs.Lists.{listOf}
 use Rattle.log.specs.Decode.{processesOf, slotsOf, entryCountOf, entryAt}
 use Rattle.log.specs.Encode.{logBytes}
 use Rattle.rules.specs.Contents.{before}
-use Rattle.rules.specs.Left.{afterAll, leftIn, nodesBy, timesPushed, timesReturned, placesOf}
+use Rattle.rules.specs.Left.{afterAll, leftIn, nodesBy, timesPushed, timesReturned, placesOf, Leaves}
+use Rattle.runs.specs.Promise.{HandsBack}
 use Rattle.runs.specs.Run.{Outcome, tableRowLength, runOf}
 use Rattle.runs.specs.Worked.{Case, room, K1, K2, K3, K4, K5, K6}
 
@@ -58,6 +59,13 @@ pub record LeftOnTable (log table : List ℕ) : Type 0 where
 abbrev pub EveryRunLeaves : Type 0
 EveryRunLeaves = (file : List ℕ) → Bytes file → (room : ℕ) → runOf file room .number ≡ 0 → runOf file room .gone ≡ 0
     → LeftOnTable (runOf file room .log) (runOf file room .table)
+
+-- The same of the programs, by what they promise: of the log that `run` hands back, `left` gives the nodes on the table. The report's first number is the
+-- refusal, its last the gone-round takes.
+abbrev pub RunThenLeft : Type 0
+RunThenLeft = (file : List ℕ) → Bytes file → (room : ℕ) (front report table : List ℕ) → HandsBack file room front report table
+    → getD report 0 0 ≡ 0 → getD report 3 0 ≡ 0 → (q : ℕ) → q < processesOf front → (number count : ℕ) (nodes : List ℕ) → Leaves front q number count nodes
+    → (number ≡ 0) × (take count nodes ≡ onTable table q)
 
 -- Computed: of each of the first three queues, what is on the table, what the log leaves, and how many by its calls.
 abbrev found : Outcome → ℕ → List (List ℕ)
