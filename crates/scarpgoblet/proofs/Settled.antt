@@ -6,6 +6,7 @@ use Rattle.base.proofs.Settled.{one-value}
 use Rattle.runs.specs.Promise.{Ran}
 use Rattle.rack.specs.Promise.{Racked}
 use Rattle.rules.specs.Judge.{judgeOf}
+use Rattle.rules.specs.Left.{Leaves}
 
 -- the number of bytes, the buffer, the report and the table
 pub scarpgoblet-run : (file log : List ℕ) (w w′ : ℕ) (b b′ r r′ t t′ : List ℕ) → Ran file log w b r t → Ran file log w′ b′ r′ t′ → (w ≡ w′) × (b ≡ b′) × (r ≡ r′) × (t ≡ t′)
@@ -23,3 +24,7 @@ scarpgoblet-judge log r r′ = one-value
 
 pub scarpgoblet-judge-entry : (log : List ℕ) (r r′ : ℕ) → r ≡ judgeOf log .entry → r′ ≡ judgeOf log .entry → r ≡ r′
 scarpgoblet-judge-entry log r r′ = one-value
+
+-- the number, how many nodes, and every lent number
+pub scarpgoblet-left : (log : List ℕ) (q n n′ c c′ : ℕ) (x x′ : List ℕ) → Leaves log q n c x → Leaves log q n′ c′ x′ → (n ≡ n′) × (c ≡ c′) × (x ≡ x′)
+scarpgoblet-left log q n n′ c c′ x x′ p r = (one-value (p .refused) (r .refused), one-value (p .counted) (r .counted), one-value (p .put) (r .put))

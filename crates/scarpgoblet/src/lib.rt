@@ -1,8 +1,10 @@
-// The bench, the rack and the judge for a host program in C: include/scarpgoblet.h says what a host may count on.
+// The bench, the rack, the judge and what is left, for a host program in C: include/scarpgoblet.h says what a host may count on.
 ghost use mathlib.Core.Path.{_≡_};
 ghost use Rattle.runs.specs.Promise.{Ran};
 ghost use Rattle.rack.specs.Promise.{Racked};
+ghost use lib.ListN.{getD};
 ghost use Rattle.rules.specs.Judge.{judgeOf};
+ghost use Rattle.rules.specs.Left.{Leaves};
 
 // Runs a file, and gives the number of bytes of the log that it wrote at the front of the host's buffer.
 #[no_mangle]
@@ -44,4 +46,20 @@ pub extern "C" fn scarpgoblet_judge_entry(log: &[u8]) -> u32
     let verdict = judge::judge(log);
     let entry = verdict.entry;
     entry as u32
+}
+
+// The nodes that a log leaves in a queue, top first, and 0 after them; gives 0, or the judge's number where the log's calls have no order.
+#[no_mangle]
+pub extern "C" fn scarpgoblet_left(
+    log: &[u8],
+    queue: u8,
+    count: &mut [u16; 1],
+    nodes: &mut [u16; 256],
+) -> u32
+    ensures { λ r. ⌜ Leaves (now (log .entry)) queue r (getD (now (count .exit)) 0 0) (now (nodes .exit)) ⌝ }
+{
+    let left = judge::left(log, queue, nodes);
+    let number = left.number;
+    *count = [left.count];
+    number as u32
 }
