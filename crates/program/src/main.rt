@@ -1,5 +1,5 @@
-// The program: with no argument it runs the run file on standard input and prints its log, its counts and the judge's number; with
-// `judge` it judges the log on standard input.
+// The program: with no argument it runs the run file on standard input and prints its log, its counts and the judge's number; with `left` it prints
+// the nodes left in each queue in place of the log; with `judge` it judges the log on standard input.
 use libc::STDERR_FILENO;
 use libc::STDOUT_FILENO;
 
@@ -15,14 +15,19 @@ const FILE_BYTES: usize = 4881;
 // if that is not given there are at most 256 entries, so that a byte stands after them, which is 13.
 const JUDGED_BYTES: usize = log::LONGEST_LOG + 1;
 
-// The log, its counts and the judge's number.
-fn print_run(log: &[u8], entries: u16, steps: u16, gone: u16) {
+// The log, or what it leaves in each queue, its counts and the judge's number.
+fn print_run(log: &[u8], entries: u16, steps: u16, gone: u16, left: bool) {
     let verdict = judge::judge(log);
-    print::entries(log, entries);
+    if left {
+        print::left(log);
+        print::unless_promised(gone);
+    } else {
+        print::entries(log, entries);
+    }
     print::counts(entries, steps, gone, verdict.number);
 }
 
-fn run_file(file: &[u8]) {
+fn run_file(file: &[u8], left: bool) {
     let mut buffer = [0u8; log::LONGEST_LOG];
     let mut report = [0u16; 4];
     let mut table = [0u16; bench::TABLE_SIZE];
@@ -31,16 +36,16 @@ fn run_file(file: &[u8]) {
         print::refused(report[0]);
         return;
     }
-    print_run(log, report[1], report[2], report[3]);
+    print_run(log, report[1], report[2], report[3], left);
 }
 
 // Runs the file on standard input.
-fn run() {
+fn run(left: bool) {
     let mut file = [0u8; FILE_BYTES];
     let input = stdio::read(&mut file);
     let n = input.length;
     if !input.failed {
-        run_file(&file[..n]);
+        run_file(&file[..n], left);
     }
 }
 
@@ -57,7 +62,9 @@ fn judge() {
 
 // Does what one word asks.
 fn asked(word: &[u8]) {
-    if check::same(word, b"judge") {
+    if check::same(word, b"left") {
+        run(true);
+    } else if check::same(word, b"judge") {
         judge();
     } else if check::same(word, b"help") {
         print::usage(STDOUT_FILENO);
@@ -71,7 +78,7 @@ fn main() {
     let n = os::arg(1, &mut word);
     let words = os::arg_count();
     if words <= 1 {
-        run();
+        run(false);
     } else if words == 2 {
         asked(&word[..n]);
     } else {
