@@ -1,7 +1,7 @@
 /* The bench and the judge, for a host program in C. Link with libscarpgoblet.a (x86-64): `rt staticlib scarpgoblet` makes it, in
  * target/staticlib/.
  *
- * All four functions answer for any bytes and any lengths, and keep nothing between calls. No pointer may be null, not even where
+ * All five functions answer for any bytes and any lengths, and keep nothing between calls. No pointer may be null, not even where
  * its length is 0. */
 #ifndef SCARPGOBLET_H
 #define SCARPGOBLET_H
@@ -39,6 +39,17 @@ uint32_t scarpgoblet_judge(const uint8_t *log, size_t length);
 
 /* The entry at fault, from 0, where the number is 14 to 19; else 0. */
 uint32_t scarpgoblet_judge_entry(const uint8_t *log, size_t length);
+
+/* The nodes that the log of `length` bytes at `log` leaves in `queue`, by the moments of its calls: the jobs still queued at its end. No
+ * two of `log`, `count` and `nodes` may overlap, and nothing is written to `log`. Gives
+ *
+ * 0:        count[0] is how many nodes are left, at most 256; they stand at the front of `nodes`, top first, and 0 after them;
+ * 11 to 16: the judge's number: it is no log, or an entry breaks rule 1, 2 or 3, so that its calls have no order. count[0] and all of
+ *           `nodes` are 0.
+ *
+ * Of the log of a run without gone-round takes they are what the slots from top up to bottom hold in the run's table. A log with an
+ * entry that breaks a later rule leaves what its calls make of the queue: a pop of an empty queue takes nothing. */
+uint32_t scarpgoblet_left(const uint8_t *log, size_t length, uint8_t queue, uint16_t count[1], uint16_t nodes[256]);
 
 /* Runs and judges the files of the rack of `rack_len` bytes at `rack`: a count in two bytes, then each file after its length in two
  * bytes, high byte first, and nothing after them. No two of `rack`, `log` and `replies` may overlap. Gives

@@ -8,7 +8,7 @@
 
 #include "scarpgoblet.h"
 
-enum { PROCESSES = 8, ROW = 67, TABLE = PROCESSES * ROW };
+enum { PROCESSES = 8, ROW = 67, TABLE = PROCESSES * ROW, NODES = 256 };
 
 static void give_up(const char *why)
 {
@@ -141,6 +141,36 @@ static void print_rack(const uint8_t *rack, size_t rack_len, size_t room, size_t
     free(log);
 }
 
+/* The nodes left in each queue that has some, one above the last process among them, which no log has. */
+static void print_left(const uint8_t *log, size_t length)
+{
+    uint16_t count[1];
+    uint16_t *nodes = (uint16_t *)room_for(NODES * sizeof *nodes);
+    const char *between = "";
+    for (unsigned q = 0; q <= PROCESSES; q++) {
+        memset(count, 0xA5, sizeof count);
+        memset(nodes, 0xA5, NODES * sizeof *nodes);
+        unsigned number = (unsigned)scarpgoblet_left(log, length, (uint8_t)q, count, nodes);
+        if (q == 0) {
+            printf(" left %u ", number);
+        }
+        for (unsigned i = 0; i < count[0] && i < NODES; i++) {
+            i == 0 ? printf("%s%u:%u", between, q, nodes[i]) : printf(",%u", nodes[i]);
+        }
+        for (unsigned i = count[0]; i < NODES; i++) {
+            if (nodes[i] != 0) {
+                printf(" not 0");
+                break;
+            }
+        }
+        between = count[0] > 0 ? ";" : between;
+    }
+    if (*between == 0) {
+        putchar('-');
+    }
+    free(nodes);
+}
+
 static void reply(int letter)
 {
     size_t room = letter == 'J' ? 0 : get_number();
@@ -154,6 +184,7 @@ static void reply(int letter)
         print_rack(bytes, n, room, space);
     } else {
         printf("judge %u %u", (unsigned)scarpgoblet_judge(bytes, n), (unsigned)scarpgoblet_judge_entry(bytes, n));
+        print_left(bytes, n);
     }
     say_if_written(bytes, copy, n);
     putchar('\n');

@@ -205,6 +205,29 @@ static int longest_table(void)
     return right;
 }
 
+/* Whether the log leaves in each queue what the table has, and in no other queue a node. */
+static int longest_left(size_t wrote)
+{
+    int right = 1;
+    for (int q = 0; q <= PROCESSES; q++) {
+        uint16_t count[1] = {UNTOUCHED}, nodes[MOST];
+        memset(nodes, UNTOUCHED, sizeof nodes);
+        right = right && scarpgoblet_left(lent.log, wrote, (uint8_t)q, count, nodes) == 0 && count[0] == (q < PROCESSES ? SCRIPT : 0);
+        for (int i = 0; i < MOST; i++) {
+            right = right && nodes[i] == (i < count[0] ? SCRIPT * q + i + 1 : 0);
+        }
+    }
+    return right;
+}
+
+/* A log that is cut: nothing is left of it. */
+static int cut_left(size_t wrote)
+{
+    uint16_t count[1] = {UNTOUCHED}, nodes[MOST], none[MOST] = {0};
+    memset(nodes, UNTOUCHED, sizeof nodes);
+    return scarpgoblet_left(lent.log, wrote - 1, 0, count, nodes) == 11 && count[0] == 0 && memcmp(nodes, none, sizeof nodes) == 0;
+}
+
 static void long_files(void)
 {
     run_and_show("K9-4096", idle(STEPS), HEAD);
@@ -216,7 +239,8 @@ static void long_files(void)
     size_t wrote = run("longest", longest(), SCARPGOBLET_LOG_MOST);
     show_verdict(wrote);
     printf(", log %s", wrote == longest_log() && memcmp(buffer, lent.log, wrote) == 0 ? "right" : "wrong");
-    printf(", table %s\n", longest_table() ? "right" : "wrong");
+    printf(", table %s", longest_table() ? "right" : "wrong");
+    printf(", left %s, cut %s\n", longest_left(wrote) ? "right" : "wrong", cut_left(wrote) ? "right" : "wrong");
 }
 
 /* ---- the rack */

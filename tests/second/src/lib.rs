@@ -2,6 +2,7 @@
 
 pub mod bench;
 pub mod judge;
+pub mod left;
 pub mod log;
 pub mod queue;
 pub mod rack;
@@ -15,6 +16,7 @@ pub const ROW: usize = 67;
 pub const TABLE: usize = 8 * ROW;
 
 pub use judge::judge;
+pub use left::left;
 pub use rack::rack;
 
 /// Runs a file: gives the length of the part of `log` that was written. The report is the number,

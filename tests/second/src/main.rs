@@ -83,7 +83,7 @@ fn make(fill: impl FnOnce(&mut Maker<Out>) -> io::Result<()>) -> io::Result<bool
     let mix = maker.finish()?;
     eprint!("{mix}");
     if let Some(case) = &mix.faulted {
-        eprintln!("the judge finds fault with the log of a run without gone-round takes:");
+        eprintln!("of a run without gone-round takes the judge finds fault with the log, or the log leaves other nodes than the table:");
         eprint!("{}", show::show(case));
     }
     Ok(mix.faulted.is_none())

@@ -15,7 +15,8 @@ pub struct Mix {
     accepted_lost: usize,
     racks: [usize; 23],
     files_of_racks: [usize; 10],
-    /// A run without gone-round takes whose log the judge found fault with: there must be none.
+    /// A run without gone-round takes whose log the judge found fault with, or leaves other nodes
+    /// than the table: there must be none.
     pub faulted: Option<Case>,
 }
 
@@ -40,7 +41,7 @@ impl Mix {
         self.gone_round += usize::from(gone_round > 0);
         self.no_tag += usize::from(file[1] == 0);
         self.lost_race += usize::from(has_lost_race(&log));
-        if gone_round == 0 && second::judge(&log).0 != 0 {
+        if gone_round == 0 && (second::judge(&log).0 != 0 || !left_on_table(&log, &table)) {
             let file = file.to_vec();
             self.faulted = Some(Case::Run { room, file });
         }
@@ -58,6 +59,15 @@ impl Mix {
             }
         }
     }
+}
+
+/// In each queue the slots from top up to bottom hold what the log leaves there.
+fn left_on_table(log: &[u8], table: &[u16; second::TABLE]) -> bool {
+    let mut queues = (0..).zip(table.chunks_exact(second::ROW));
+    queues.all(|(queue, row)| {
+        let (bottom, top) = (usize::from(row[0]), usize::from(row[1]));
+        row[3..].get(top..bottom) == Some(&second::left(log, queue).1)
+    })
 }
 
 impl fmt::Display for Mix {

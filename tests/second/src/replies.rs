@@ -9,7 +9,7 @@ pub fn reply(case: &Case) -> String {
         Case::Run { room, file } => run_reply(*room, file),
         Case::Judge { log } => {
             let (number, entry) = second::judge(log);
-            format!("judge {number} {entry}")
+            format!("judge {number} {entry} left {}", left_in_all(log))
         }
         Case::Rack { room, space, rack } => rack_reply(*room, *space, rack),
     }
@@ -29,6 +29,23 @@ fn rack_reply(room: usize, space: usize, rack: &[u8]) -> String {
     line.push(' ');
     write_hex(&log, &mut line);
     line
+}
+
+/// What is left in each queue, the first that no log has among them.
+fn left_in_all(log: &[u8]) -> String {
+    let mut rows = Vec::new();
+    for queue in 0..=8 {
+        let nodes: Vec<String> = second::left(log, queue)
+            .1
+            .iter()
+            .map(u16::to_string)
+            .collect();
+        if !nodes.is_empty() {
+            rows.push(format!("{queue}:{}", nodes.join(",")));
+        }
+    }
+    let none = if rows.is_empty() { "-" } else { "" };
+    format!("{} {none}{}", second::left(log, 0).0, rows.join(";"))
 }
 
 fn run_reply(room: usize, file: &[u8]) -> String {

@@ -62,7 +62,11 @@ pub fn differences() -> Vec<String> {
     });
     let refused = refusals().into_iter().chain(repeats());
     let judged = logs().into_iter().chain(nils());
-    let all = outputs.chain(refused).chain(judged).chain(racks());
+    let all = outputs
+        .chain(refused)
+        .chain(judged)
+        .chain(racks())
+        .chain(lefts());
     all.filter(|(_, wanted, found)| wanted != found)
         .map(|(name, wanted, found)| format!("{name}: wanted\n{wanted}found\n{found}"))
         .collect()
@@ -220,6 +224,50 @@ fn nils() -> Vec<(&'static str, String, String)> {
         (name, format!("{number} at entry 0\n"), judged(&log))
     };
     calls.into_iter().map(compare).collect()
+}
+
+/// What the worked runs leave in their queues, and three processes in turn; K4's take before the
+/// last push, after which the table has no node 3.
+fn lefts() -> Vec<(&'static str, String, String)> {
+    let wanted: [&[&[u16]]; 9] = [
+        &[&[], &[]],
+        &[&[], &[]],
+        &[&[6], &[], &[]],
+        &[&[], &[]],
+        &[&[], &[]],
+        &[&[3], &[]],
+        &[&[1]],
+        &[&[]],
+        &[&[]],
+    ];
+    let runs = runs().into_iter().zip(wanted);
+    let runs = runs.map(|((name, file, _), wanted)| (name, file, wanted));
+    let mut earlier = k4_with(1);
+    let push_and_take = earlier.len() - 4;
+    earlier[push_and_take..].rotate_right(1);
+    let others: [(_, _, &[&[u16]]); 2] = [
+        ("three processes", three(), &[&[2, 4], &[12, 13], &[22]]),
+        ("K4, the take earlier", earlier, &[&[3], &[]]),
+    ];
+    let compare = |(name, file, wanted): (_, Vec<u8>, &[&[u16]])| {
+        (name, format!("{wanted:?}\n"), left_by(&file, wanted.len()))
+    };
+    runs.chain(others).map(compare).collect()
+}
+
+fn three() -> Vec<u8> {
+    let front = [
+        2, 16, 3, 3, 5, 5, 5, 0, 15, 1, 0, 1, 1, 0, 2, 1, 0, 3, 2, 0, 0, 1, 0, 4, 1, 0, 11, 1, 0,
+        12, 1, 0, 13, 1, 0, 14, 3, 0, 0, 1, 0, 21, 2, 0, 0, 2, 0, 0, 1, 0, 22, 3, 0, 1,
+    ];
+    file(&front, &[&[0; 16][..], &[1; 14], &[2; 16]].concat())
+}
+
+fn left_by(file: &[u8], queues: usize) -> String {
+    let mut log = vec![0; length(MOST)];
+    let written = second::run(file, &mut log, &mut [0; 4], &mut [0; second::TABLE]);
+    let left = (0..queues as u8).map(|queue| second::left(&log[..written], queue).1);
+    format!("{:?}\n", left.collect::<Vec<_>>())
 }
 
 fn racks() -> Vec<(&'static str, String, String)> {
