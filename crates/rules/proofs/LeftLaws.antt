@@ -11,7 +11,7 @@ use lib.Dec.{eqb, ltb, leb}
 use lib.ListN.{length}
 use Rattle.log.specs.declared.Entry.{Entry}
 use Rattle.log.specs.declared.What.{What}
-use Rattle.log.specs.declared.What.the-variants.{Pushed, Full, BottomNode, BottomNil, TopNode, TopNil}
+use Rattle.log.specs.declared.What.the-variants.{Pushed, Full, BottomNode, BottomNil, TopNode, TopNil, TopLost}
 use Rattle.log.specs.Numbers.{what, same, bearsMoment}
 use Rattle.log.specs.Decode.{sectionCountOf, processesOf, slotsOf, entryCountOf, entryAt}
 use Rattle.log.proofs.NumbersLaws.{same-true}
@@ -177,6 +177,7 @@ module _ (f : ℕ → Entry) (n P C : ℕ) (a : Accepted f n P C) where
         subst (λ (d : List ℕ). tally p (applied TopNode (e .node) d) + one (p (e .node)) ≡ tally p d + 0) (sym (h .1))
         (omega (arith, tally-cons p (e .node) (h .0)))
     one-call e c TopNil h = refl
+    one-call e c TopLost h = refl
 
     abbrev pushedSo : ℕ → ℕ → ℕ
     pushedSo q m = count (passing pushesOne pushed-borne q m) n
