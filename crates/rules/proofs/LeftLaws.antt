@@ -37,8 +37,12 @@ moment-below f (suc n) i u b = split (ℕ-discrete i n) (λ v. moment-below f n 
     split (yes d) ih =
         let e : f i .moment ≡ f n .moment = ap (λ (k : ℕ). f k .moment) d in
         let t : bears (f n) ≡ true = ap (λ (k : ℕ). bears (f k)) (sym d) ∙ b in
-        subst (λ (s : Bool). f i .moment < cond (s && leb (afterAll f n) (f n .moment)) (suc (f n .moment)) (afterAll f n)) (sym t)
-        (either-way (λ (x : ℕ). f i .moment < x) (leb (afterAll f n) (f n .moment)) (λ _. omega arith) (λ g. omega (arith, leb-false (afterAll f n) (f n .moment) g)))
+        either-way (λ (x : ℕ). f i .moment < x) (bears (f n) && leb (afterAll f n) (f n .moment)) (λ g. omega arith)
+        (λ g. omega (
+          arith,
+          leb-false (afterAll f n) (f n .moment) (not-so (leb (afterAll f n) (f n .moment)) (λ h.
+              contra (bears (f n) && leb (afterAll f n) (f n .moment)) (and-i t h) g)),
+        ))
     split (no d) ih =
         let lt = ih (omega arith) in
         either-way (λ (x : ℕ). f i .moment < x) (bears (f n) && leb (afterAll f n) (f n .moment))

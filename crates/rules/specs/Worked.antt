@@ -12,7 +12,7 @@ use Rattle.log.specs.Encode.{headBytes, logBytes}
 use Rattle.rules.specs.declared.Verdict.{Verdict}
 use Rattle.rules.specs.Contents.{before}
 use Rattle.rules.specs.Judge.{says, judgeOf}
-use Rattle.rules.specs.Left.{afterAll, nodesBy, leftOf}
+use Rattle.rules.specs.Left.{afterAll, nodesBy, timesPushed, leftOf}
 
 record Case : Type 0 where
   bytes : List ℕ
@@ -208,7 +208,15 @@ pub all-right : map (λ c. judgeOf (c .bytes)) worked ≡ map (λ c. c .verdict)
 unfolding entryAt before logBytes
 all-right = refl
 
--- What is left in queue 0, with how many nodes it holds by its calls: of K3's log; of K6's, whose FULL pushed nothing; of logs that break rule 4, where the
+-- K6's log: 7 was pushed, and 8, which had FULL, was not
+abbrev k6 : List ℕ
+k6 = bytesOf 1 1 (call 0 0 Pushed 7 0 2 4 ∷ call 0 0 Full 8 3 3 noMoment ∷ [])
+
+pub pushed-right : map (timesPushed (entryAt k6) (entryCountOf k6)) (7 ∷ 8 ∷ []) ≡ 1 ∷ 0 ∷ []
+unfolding entryAt logBytes
+pushed-right = refl
+
+-- What is left in queue 0, with how many nodes it holds by its calls: of K3's log; of K6's; of logs that break rule 4, where the
 -- contents are what the calls make of them; and of one whose calls have no order.
 abbrev left : List ℕ → List (List ℕ)
 left bytes = leftOf bytes 0 ∷ (nodesBy (entryAt bytes) (entryCountOf bytes) 0 (afterAll (entryAt bytes) (entryCountOf bytes)) ∷ []) ∷ []
@@ -216,7 +224,7 @@ left bytes = leftOf bytes 0 ∷ (nodesBy (entryAt bytes) (entryCountOf bytes) 0 
 pub left-right :
     map left (
     bytesOf 3 4 (after-two (call 2 0 TopNode 5 9 12 24 ∷ call 1 0 TopNil 0 6 13 noMoment ∷ []))
-    ∷ bytesOf 1 1 (call 0 0 Pushed 7 0 2 4 ∷ call 0 0 Full 8 3 3 noMoment ∷ [])
+    ∷ k6
     ∷ bytesOf 2 4 (k4 (call 1 0 TopNode 1 3 24 48))
     ∷ bytesOf 1 4 (after-two (call 0 0 BottomNode 5 6 9 14 ∷ []))
     ∷ bytesOf 1 4 (call 0 0 Pushed 7 0 2 4 ∷ call 0 0 Pushed 8 3 5 5 ∷ [])
