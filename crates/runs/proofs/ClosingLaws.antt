@@ -30,11 +30,11 @@ use Rattle.runs.proofs.TurnLaws.{got}
 abbrev Numbered : ℕ → State → Type 0
 Numbered n s = s .bench .steps ≡ n
 
-act-numbered : (W C n p : ℕ) (r : Process) (s : State) → Numbered n s → Numbered (suc n) (act W C p r s)
+pub act-numbered : (W C n p : ℕ) (r : Process) (s : State) → Numbered n s → Numbered (suc n) (act W C p r s)
 unfolding act
 act-numbered W C n p r s h = omega arith
 
-turn-numbered : (W C : ℕ) (calls : List Call) (n p : ℕ) (s : State) → Numbered n s → Numbered (suc n) (turn W C calls p s)
+pub turn-numbered : (W C : ℕ) (calls : List Call) (n p : ℕ) (s : State) → Numbered n s → Numbered (suc n) (turn W C calls p s)
 turn-numbered W C calls n p s h =
     turn-keeps W C calls (Numbered (suc n)) p s (omega arith) (λ e. act-numbered W C n p (turning calls p s) s h)
 
@@ -67,7 +67,7 @@ most-left (B7 b x t g) = omega arith
 none-left : (z : Stage) → stepsLeft z ≤ 0 → isIdle z ≡ true
 none-left z h = ap isIdle (returned 0 0 (λ k. fresh .word) (λ k. 0) 0 z h)
 
-some-left : (z : Stage) → isIdle z ≡ false → 1 ≤ stepsLeft z
+pub some-left : (z : Stage) → isIdle z ≡ false → 1 ≤ stepsLeft z
 some-left z e = split (decLt 0 (stepsLeft z))
   where
     split : Dec (0 < stepsLeft z) → 1 ≤ stepsLeft z

@@ -2,10 +2,12 @@
 -- included.
 use Prim.Native.Nat.{ℕ, _≤_}
 use mathlib.Core.Path.{_≡_, refl, sym, _∙_, subst}
-use mathlib.Core.Bool.{false}
-use mathlib.Core.List.{List}
+use mathlib.Core.Bool.{true, false}
+use mathlib.Core.List.{List, []}
 use native.Mathlib.Omega.{arith}
 use lib.Dec.{ltb}
+use lib.ListN.{length, getD}
+use Rattle.range.specs.Range.{inRange}
 use Rattle.queue.specs.Step.{loadedSlot, loaded}
 use Rattle.base.proofs.Cases.{either-way, ever}
 use Rattle.queue.specs.Step.{StoresBelow}
@@ -18,10 +20,10 @@ use Rattle.runfile.proofs.NumberLaws.{refused-few}
 use Rattle.runfile.proofs.RangeLaws.{good-ranges}
 use Rattle.runs.specs.Moment.{queueOf}
 use Rattle.runs.specs.Run.{Outcome, refusal, finished, roomFor, closed, outcome, runOf}
-use Rattle.runs.specs.Shown.{Touches, BelowC, Never9, EachBegunOnce}
+use Rattle.runs.specs.Shown.{Touches, BelowC, EveryStepInRange, Never9, EachBegunOnce}
 use Rattle.runs.proofs.BegunLaws.{begun-unrefused}
-use Rattle.runs.specs.State.{State, queueAt, processAt}
-use Rattle.runs.proofs.Sound.{slotsAt, stepping-is}
+use Rattle.runs.specs.State.{Process, State, queueAt, processAt}
+use Rattle.runs.proofs.Sound.{slotsAt, placed-in-range, stepping-is}
 use Rattle.runs.proofs.Scripts.{sizesOf, fit, ready-case}
 use Rattle.runs.specs.States.{StateOf}
 use Rattle.runs.proofs.States.{sound, each-scripted, the-end}
@@ -41,6 +43,17 @@ below-C f h s o p lt =
           (stores-below (f .width) (f .size) (queueAt (s .bench) (queueOf p (r .call)) .word) (loaded (slotsAt s (queueOf p (r .call))) (loadedSlot (r .stage)))
           (r .stage) (k .placed .stage));
     })
+
+pub every-step-in-range : EveryStepInRange
+every-step-in-range f h s o p lt =
+    let v = sound f h s o in
+    ready-case f h In s v (each-scripted f h s o) p lt (λ e. placed-in-range (sizesOf f) (fit f h) s v p (processAt (s .bench) p) (v .each p lt))
+    (λ r k c. placed-in-range (sizesOf f) (fit f h) s v p r (k .placed))
+  where
+    In : Process → Type 0
+    In r =
+        let q : ℕ = queueOf p (r .call) in
+        inRange (f .width) (f .size) (length (getD (s .slots) q [])) (queueAt (s .bench) q .word) (r .stage) ≡ true
 
 -- What a run gives: a file is refused with 1 to 7, or has a good record and is refused with 8, or is run to its end.
 pub run-cases : (Q : Outcome → Type 0) (file : List ℕ) → Bytes file → (room : ℕ) → ((n : ℕ) → 1 ≤ n → n ≤ 8 → Q (refusal n))

@@ -15,5 +15,7 @@ pub mod States
 pub mod InRange
 -- Result 3 is written exactly for NIL at T4.
 pub mod LostLaws
+-- Each call makes at most 3, 4 or 7 own steps.
+pub mod OwnLaws
 -- Of the promise of `run_len`: the front part of the buffer.
 pub mod PromiseLaws

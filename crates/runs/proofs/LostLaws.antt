@@ -40,7 +40,7 @@ written-lost p n r owner t Full h = absurd (omega arith)
 written-lost p n r owner t Refused h = absurd h
 
 -- which rows answer so
-abbrev LostIn : Word → Stage → Next → Type 0
+abbrev pub LostIn : Word → Stage → Next → Type 0
 LostIn w s (Going z) = Unit {0}
 LostIn w s Done = Unit {0}
 LostIn w s (Node x) = Unit {0}
@@ -52,7 +52,7 @@ LostIn w s Refused = Unit {0}
 abbrev LostBy : Word → Stage → Stepped → Type 0
 LostBy w s o = LostIn w s (o .next)
 
-row-lost : (W C : ℕ) (w : Word) (v : ℕ) (s : Stage) → LostIn w s (rowOf W C w v s .next)
+pub row-lost : (W C : ℕ) (w : Word) (v : ℕ) (s : Stage) → LostIn w s (rowOf W C w v s .next)
 row-lost W C w v Idle = tt
 row-lost W C w v (P1 node) = either-way (LostBy w (P1 node)) (eqb (w .bottom) C) (λ e. tt) (λ e. tt)
 row-lost W C w v (P2 node b) = tt

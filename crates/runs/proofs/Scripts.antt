@@ -96,12 +96,13 @@ module _ (f : RunFile) (h : InRanges f) where
       by false z u d = a _ (goes-on (sizesOf f) (fit f h) s v p lt z) (e p lt)
 
   -- a turn of the schedule is an idle step, or a step in a call
-  pub turn-case : (Q : State → Type 0) (s : State) → Sound (sizesOf f) s → Each f s → (p : ℕ) → p < length (f .shares) → Q (idle s)
+  pub turn-case : (Q : State → Type 0) (s : State) → Sound (sizesOf f) s → Each f s → (p : ℕ) → p < length (f .shares)
+      → (isIdle (processAt (s .bench) p .stage) ≡ true → Q (idle s))
       → ((r : Process) → Steps (sizesOf f) s p r → Scripted f p r → Q (act (f .width) (f .size) p r s)) → Q (turn (f .width) (f .size) (f .calls) p s)
   unfolding turn
   turn-case Q s v e p lt i a =
       ready-case (λ (r : Process). Q (turnAs (f .width) (f .size) p s r)) s v e p lt
-      (λ z. either-way Q (isIdle (processAt (s .bench) p .stage)) (λ c. i) (λ c. ever (sym z ∙ c)))
+      (λ z. either-way Q (isIdle (processAt (s .bench) p .stage)) (λ c. i z) (λ c. ever (sym z ∙ c)))
       (λ r k c. either-way Q (isIdle (r .stage)) (λ z. ever (sym z ∙ k .busy)) (λ z. a r k c))
 
   -- the step keeps each process in its script

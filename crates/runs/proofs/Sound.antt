@@ -94,22 +94,21 @@ pub record Fresh (f : Sizes) (s : State) : Type 0 where
   pub gone : s .bench .gone ≡ 0
 
 module _ (f : Sizes) (h : Fit f) where
+  -- whoever steps in such a state is in range
+  pub placed-in-range : (s : State) → Sound f s → (p : ℕ) (r : Process) → Placed f p r → let q : ℕ = queueOf p (r .call) in
+      inRange (f .width) (f .size) (length (slotsAt s q)) (queueAt (s .bench) q .word) (r .stage) ≡ true
+  placed-in-range s v p r k =
+      let q : ℕ = queueOf p (r .call) in
+      range-in (f .width) (f .size) (length (slotsAt s q)) (queueAt (s .bench) q .word) (r .stage) (record {
+        sizes = record { width-high = h .width; size-low = h .size .0; size-high = h .size .1; all = v .sizes q (k .queue) };
+        word = v .words q (k .queue);
+        stage = k .stage;
+      })
+
   -- no step of such a state is refused
   pub stepping-is : (s : State) → Sound f s → (p : ℕ) (r : Process) → Steps f s p r → stepping (f .width) (f .size) p r s ≡ rowAt f s p r
   stepping-is s v p r k =
-      let q : ℕ = queueOf p (r .call) in
-      let e : inRange (f .width) (f .size) (length (slotsAt s q)) (queueAt (s .bench) q .word) (r .stage) ≡ true =
-      range-in (f .width) (f .size) (length (slotsAt s q)) (queueAt (s .bench) q .word) (r .stage) (record {
-        sizes = record {
-          width-high = h .width;
-          size-low = h .size .0;
-          size-high = h .size .1;
-          all = v .sizes q (k .placed .queue);
-        };
-        word = v .words q (k .placed .queue);
-        stage = k .placed .stage;
-      }) in
-      ap (λ (t : Bool). cond t (rowAt f s p r) (leaves (queueAt (s .bench) q .word) next.Refused)) e
+      ap (λ (t : Bool). cond t (rowAt f s p r) (leaves (queueAt (s .bench) (queueOf p (r .call)) .word) next.Refused)) (placed-in-range s v p r (k .placed))
 
   pub act-is : (s : State) → Sound f s → (p : ℕ) (r : Process) → Steps f s p r → act (f .width) (f .size) p r s ≡ acted p r s (rowAt f s p r)
   unfolding act

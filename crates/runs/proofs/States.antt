@@ -86,7 +86,7 @@ module _ (f : RunFile) (h : InRanges f) where
       let g : Got (scheduled f k) = played k (omega arith) in
       subst Got (sym (scheduled-next f k (omega arith)))
       (turn-case f h Got (scheduled f k) (sound-of (scheduled f k) g) (g .1) (getD (f .schedule) k 0) (h .schedule k (omega arith))
-      (idles (scheduled f k) (g .0), g .1)
+      (λ _. (idles (scheduled f k) (g .0), g .1))
       (got-act (scheduled f k) (at-schedule k (omega arith)) g (getD (f .schedule) k 0)))
 
   closed-too : (k : ℕ) → k ≤ closingSteps → Got (closing f k)

@@ -1,18 +1,20 @@
 -- What is shown of every run of a good file, gone-round runs included.
-use Prim.Native.Nat.{ℕ, _+_, _-_, _≤_, _<_}
+use Prim.Native.Nat.{ℕ, zero, suc, _+_, _-_, _≤_, _<_}
 use mathlib.Core.Path.{_≡_}
-use mathlib.Core.Bool.{true, false, cond}
+use mathlib.Core.Bool.{true, false, cond, _&&_}
 use mathlib.Core.Logic.{_↔_}
 use mathlib.Core.List.{List, [], _∷_, map}
-use lib.Dec.{eqb}
+use lib.Dec.{eqb, ltb, leb}
 use lib.ListN.{length, getD, take}
 use Rattle.base.specs.Bytes.{Bytes}
+use Rattle.base.specs.Lists.{All}
 use Rattle.log.specs.Numbers.{push, bottomPop, lost}
 use Rattle.log.specs.declared.Entry.{Entry}
 use Rattle.word.specs.Stages.{isIdle}
 use Rattle.word.specs.declared.Stage.{Stage}
 use Rattle.word.specs.declared.Stage.the-variants.{T4}
 use Rattle.word.specs.declared.Word.{Word}
+use Rattle.range.specs.Range.{inRange}
 use Rattle.queue.specs.Step.{sameAge, loadedSlot, LoadsBelow, StoresBelow}
 use Rattle.runfile.specs.Check.{sum}
 use Rattle.runfile.specs.Encode.{InRanges}
@@ -20,9 +22,9 @@ use Rattle.runfile.specs.File.{RunFile, script}
 use Rattle.runfile.specs.declared.Call.{Call}
 use Rattle.runfile.specs.declared.Call.the-variants.{Push, Pop, Take}
 use Rattle.runs.specs.Moment.{queueOf, Ended, Nothing, ends}
-use Rattle.runs.specs.Run.{closingSteps, closed, runOf}
+use Rattle.runs.specs.Run.{lowest, closingSteps, closed, runOf}
 use Rattle.runs.specs.State.{Process, State, queueAt, processAt}
-use Rattle.runs.specs.States.{StateOf}
+use Rattle.runs.specs.States.{closing, StateOf}
 use Rattle.runs.specs.Turn.{ready, stepping, ending}
 
 -- a run has at most 4,096 + 48 steps
@@ -41,6 +43,13 @@ pub record Touches (f : RunFile) (s : State) (p : ℕ) (r : Process) : Type 0 wh
 abbrev pub BelowC : Type 0
 BelowC = (f : RunFile) → InRanges f → (s : State) → StateOf f s → (p : ℕ) → p < length (f .shares)
     → Touches f s p (ready (f .calls) (s .bench .steps) (processAt (s .bench) p))
+
+-- whoever steps next is in range, as the desk has it: the word and the slots of its queue, and its stage
+abbrev pub EveryStepInRange : Type 0
+EveryStepInRange = (f : RunFile) → InRanges f → (s : State) → StateOf f s → (p : ℕ) → p < length (f .shares)
+    → let r : Process = ready (f .calls) (s .bench .steps) (processAt (s .bench) p) in
+    let q : ℕ = queueOf p (r .call) in
+    inRange (f .width) (f .size) (length (getD (s .slots) q [])) (queueAt (s .bench) q .word) (r .stage) ≡ true
 
 -- number 9 never arises
 abbrev pub Never9 : Type 0
@@ -64,6 +73,24 @@ abbrev pub Lost3 : Type 0
 Lost3 = (f : RunFile) → InRanges f → (s : State) → StateOf f s → (p : ℕ) → p < length (f .shares)
     → let r : Process = ready (f .calls) (s .bench .steps) (processAt (s .bench) p) in
     Writes3 (ending p r (s .bench) (stepping (f .width) (f .size) p r s .next)) ↔ FailsT4 (queueAt (s .bench) (queueOf p (r .call)) .word) (r .stage)
+
+-- who makes step n of a run: by the schedule, and after it the lowest half-done process
+abbrev pub whoSteps : RunFile → ℕ → ℕ
+whoSteps f n = cond (ltb n (length (f .schedule))) (getD (f .schedule) n 0) (lowest (closing f (n - length (f .schedule)) .bench .processes))
+
+-- how many of the steps before step n, from step `from` on, process p makes
+abbrev pub ownSteps : RunFile → ℕ → ℕ → ℕ → ℕ
+ownSteps f p from zero = 0
+ownSteps f p from (suc n) = ownSteps f p from n + cond (leb from n && eqb (whoSteps f n) p) 1 0
+
+-- a push takes at most 3 of its own steps, a top pop 4, a bottom pop 7
+abbrev pub ownMost : ℕ → ℕ
+ownMost kind = cond (eqb kind push) 3 (cond (eqb kind bottomPop) 7 4)
+
+-- so does each call of a run, from its start to its end, whatever others do between
+abbrev pub OwnStepsMost : Type 0
+OwnStepsMost = (f : RunFile) → InRanges f
+    → All (λ (e : Entry). ownSteps f (e .process) (e .start) (suc (e .end)) ≤ ownMost (e .kind)) (closed f .log)
 
 -- the entries of process p, in order
 abbrev pub entriesOf : ℕ → List Entry → List Entry

@@ -1,13 +1,15 @@
 -- The worked runs K1 to K8 and K13, K4 with no tag, and one of three queues, computed on the definitions: bytes in; entries, counts and the first queue's
 -- row of the table out.
-use Prim.Native.Nat.{ℕ, _-_, _*_}
+use Prim.Native.Nat.{ℕ, suc, _-_, _*_}
 use mathlib.Core.Path.{_≡_, refl}
 use mathlib.Core.List.{List, [], _∷_, _++_, map}
 use lib.ListN.{length, getD, take, drop, replicate}
 use Rattle.log.specs.Decode.{logLength}
 use Rattle.log.specs.Encode.{logBytes}
 use Rattle.log.specs.declared.Entry.{Entry}
+use Rattle.runfile.specs.File.{recordIn}
 use Rattle.runs.specs.Run.{Outcome, tableRowLength, runOf}
+use Rattle.runs.specs.Shown.{ownSteps}
 
 pub record Case : Type 0 where
   pub file : List ℕ
@@ -153,6 +155,11 @@ expected k =
 pub worked : map (λ (k : Case). shown (runOf (k .file) (room k))) runs ≡ map expected runs
 unfolding runOf logBytes
 worked = refl
+
+-- the own steps of the three calls of K1: P1 to P3, T1 to T4, and B1 to B5 with B7, the last four in the closing
+own-steps : map (λ (e : Entry). ownSteps (recordIn (K1 .file)) (e .process) (e .start) (suc (e .end))) (K1 .entries) ≡ 3 ∷ 4 ∷ 6 ∷ []
+unfolding runOf
+own-steps = refl
 
 -- K13: a buffer one byte short
 pub K13 : map (λ (k : Case). shown (runOf (k .file) (room k - 1))) runs ≡ map (λ (k : Case). (8 ∷ 0 ∷ 0 ∷ 0 ∷ []) ∷ replicate 7 0 ∷ [] ∷ []) runs

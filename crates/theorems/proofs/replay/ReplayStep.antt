@@ -279,4 +279,4 @@ module _ (f : RunFile) (h : InRanges f) (s : State) (v : Sound (sizesOf f) s) (c
   after-act p r k cr = subst Good (sym (act-is (sizesOf f) (fit f h) s v p r k)) (sound-act (sizesOf f) (fit f h) s v p r k, each-act f h s v c p r k cr)
 
   pub after-turn : (p : ℕ) → p < length (f .shares) → Good (turn (f .width) (f .size) (f .calls) p s)
-  after-turn p lt = turn-case f h Good s v c p lt (sound-idle (sizesOf f) (fit f h) s v, c) (after-act p)
+  after-turn p lt = turn-case f h Good s v c p lt (λ _. (sound-idle (sizesOf f) (fit f h) s v, c)) (after-act p)
