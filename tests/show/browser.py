@@ -7,14 +7,22 @@ import subprocess
 import sys
 import tempfile
 
-WORDS = ["--headless", "--no-sandbox", "--disable-gpu", "--hide-scrollbars", "--remote-debugging-pipe", "--no-first-run", "about:blank"]
+WORDS = ["--headless", "--no-sandbox", "--disable-gpu", "--disable-dev-shm-usage", "--hide-scrollbars", "--remote-debugging-pipe", "--no-first-run",
+         "about:blank"]
+
+
+class Missing(Exception):
+    """There is no browser, and none could be installed."""
 
 
 def found():
     """The browser's command."""
     if not shutil.which("chromium"):
         for words in (["update", "-qq"], ["install", "-y", "-qq", "chromium"]):
-            subprocess.run(["apt-get", *words], stdout=subprocess.DEVNULL, check=True)
+            try:
+                subprocess.run(["apt-get", *words], stdout=subprocess.DEVNULL, check=True, timeout=900)
+            except (OSError, subprocess.SubprocessError) as why:
+                raise Missing(why) from why
     return shutil.which("chromium")
 
 
@@ -22,12 +30,13 @@ class Browser:
     """One page at a time. `errors` has what went wrong in its scripts."""
 
     def __init__(self):
+        command = found()
         self.errors, self.last, self.rest = [], 0, b""
         self.room = tempfile.TemporaryDirectory()
         hears, self.tells = os.pipe()
         self.hears, tells = os.pipe()
         # the pipe's ends are to be 3 and 4; a shell puts them there
-        words = ["sh", "-c", f'exec 3<&{hears} 4>&{tells} "$@"', "sh", found(), f"--user-data-dir={self.room.name}", *WORDS]
+        words = ["sh", "-c", f'exec 3<&{hears} 4>&{tells} "$@"', "sh", command, f"--user-data-dir={self.room.name}", *WORDS]
         self.process = subprocess.Popen(words, pass_fds=(hears, tells), stderr=subprocess.DEVNULL)
         os.close(hears)
         os.close(tells)
