@@ -22,7 +22,7 @@ extern "C" {
  * are:
  *
  * report[0]: the number: 0 where the file was run, 1 to 7 where the file is refused, 8 where the log's bytes are fewer than
- *            5 + 12 * the file's calls; 9 stands for a step outside a queue's slots, which no file leads to;
+ *            5 + 12 * the file's calls; no other;
  * report[1]: entries, the calls that ended, which are the entries of the log;
  * report[2]: steps, those of the closing among them;
  * report[3]: gone-round takes: successful takes whose queue was reset since their first step;

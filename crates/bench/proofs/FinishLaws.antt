@@ -4,13 +4,13 @@ use mathlib.Core.Path.{_≡_, refl, sym, ap, _∙_}
 use mathlib.Core.List.{List, [], _∷_, _++_, append-assoc}
 use native.Mathlib.Omega.{arith}
 use lib.ListN.{length, take, drop, length-append, length-drop, take-append-drop}
-use lib.Seq.{take-take, take-at, drop-at, length-take-le, drop-drop}
+use lib.Seq.{drop-at, length-take-le, drop-drop}
 use borrow.Author.Tests.{le-leb}
 use Rattle.base.specs.Bytes.{putAt}
 use Rattle.base.specs.Lists.{listOf}
 use Rattle.log.specs.Encode.{Log, headBytes, entryBytes, entriesBytes, logBytes}
 use Rattle.base.proofs.Bytes.{put-after}
-use Rattle.log.proofs.EncodeLaws.{length-entries, length-log}
+use Rattle.log.proofs.EncodeLaws.{length-log}
 use Rattle.log.specs.declared.Entry.{Entry}
 use Rattle.runfile.specs.File.{RunFile}
 use Rattle.bench.specs.inner.Layout.{slotsIn, putEntries, Becomes}
@@ -47,28 +47,29 @@ module _ (P C : ℕ) (es : List Entry) (log₀ : List ℕ) (h : 5 + 12 * length 
   with-head : (l : List ℕ) → 5 ≤ length l → putAt 0 (headBytes P C (length es)) l ≡ headBytes P C (length es) ++ drop 5 l
   with-head l k = rw (le-leb (0 + 5) (length l) (omega arith))
 
-  -- the front of the program's log, with its head, is the log
-  pub log-bytes : take (5 + 12 * length es) (putAt 0 (headBytes P C (length es)) (putEntries 0 es log₀)) ≡ logBytes (record { P = P; C = C; entries = es })
+  -- the buffer with entries and head is the log, and then what it held
+  pub log-bytes : putAt 0 (headBytes P C (length es)) (putEntries 0 es log₀) ≡ logBytes (record { P = P; C = C; entries = es }) ++ drop (5 + 12 * length es) log₀
   unfolding logBytes
   log-bytes =
       let rest = drop (12 * length es) (drop 5 log₀) in
-      ap (λ (l : List ℕ). take (5 + 12 * length es) (putAt 0 (headBytes P C (length es)) l)) put-all
-      ∙ ap (take (5 + 12 * length es)) (with-head (take 5 log₀ ++ (entriesBytes es ++ rest)) (omega (arith, five, length-append (take 5 log₀) (entriesBytes es ++ rest))))
-      ∙ ap (λ (l : List ℕ). take (5 + 12 * length es) (headBytes P C (length es) ++ l)) (drop-at (take 5 log₀) (entriesBytes es ++ rest) 5 five)
-      ∙ ap (take (5 + 12 * length es)) (sym (append-assoc (headBytes P C (length es)) (entriesBytes es) rest))
-      ∙ take-at (headBytes P C (length es) ++ entriesBytes es) rest (5 + 12 * length es) (omega (arith, length-append (headBytes P C (length es)) (entriesBytes es), length-entries es))
+      let all : 5 + 12 * length es ≡ 12 * length es + 5 = omega arith in
+      ap (putAt 0 (headBytes P C (length es))) put-all
+      ∙ with-head (take 5 log₀ ++ (entriesBytes es ++ rest)) (omega (arith, five, length-append (take 5 log₀) (entriesBytes es ++ rest)))
+      ∙ ap (λ (l : List ℕ). headBytes P C (length es) ++ l) (drop-at (take 5 log₀) (entriesBytes es ++ rest) 5 five)
+      ∙ sym (append-assoc (headBytes P C (length es)) (entriesBytes es) rest)
+      ∙ ap (λ (l : List ℕ). (headBytes P C (length es) ++ entriesBytes es) ++ l) (drop-drop (12 * length es) 5 log₀)
 
 -- the program's last part gives what is promised of a finished run
-pub finished-gives : (f : RunFile) (s : State) (log₀ : List ℕ) (b : HeldBench) (flat log buffer : List ℕ) (written : ℕ) (buffer′ report table : List ℕ)
-    → Becomes (f .size) 0 log₀ s b flat log → 5 + 12 * length (s .log) ≤ length log₀
-    → Finishes (length (f .shares)) (f .size) b flat log buffer written buffer′ report table → Gives (finished f s) buffer written buffer′ report table
-finished-gives f s log₀ b flat log buffer written buffer′ report table h room g = record {
+pub finished-gives : (f : RunFile) (s : State) (buffer : List ℕ) (b : HeldBench) (flat log : List ℕ) (written : ℕ) (buffer′ report table : List ℕ)
+    → Becomes (f .size) 0 buffer s b flat log → 5 + 12 * length (s .log) ≤ length buffer
+    → Finishes (length (f .shares)) (f .size) b flat log written buffer′ report table → Gives (finished f s) buffer written buffer′ report table
+finished-gives f s buffer b flat log written buffer′ report table h room g = record {
   bytes = g .bytes ∙ ap (λ (n : ℕ). 5 + 12 * n) count ∙ sym (length-log whole);
   kept =
       g .kept
-      ∙ ap (λ (n : ℕ). take (5 + 12 * n) (putAt 0 (headBytes P (f .size) n) log) ++ drop (5 + 12 * n) buffer) count
-      ∙ ap (λ (l : List ℕ). take m (putAt 0 (headBytes P (f .size) (length (s .log))) l) ++ drop m buffer) (h .bytes)
-      ∙ ap (λ (l : List ℕ). l ++ drop m buffer) (log-bytes P (f .size) (s .log) log₀ room)
+      ∙ ap (λ (n : ℕ). putAt 0 (headBytes P (f .size) n) log) count
+      ∙ ap (putAt 0 (headBytes P (f .size) (length (s .log)))) (h .bytes)
+      ∙ log-bytes P (f .size) (s .log) buffer room
       ∙ ap (λ (n : ℕ). logBytes whole ++ drop n buffer) (sym (length-log whole));
   counts = g .counts ∙ ap (λ (n : ℕ). 0 ∷ n ∷ b .steps ∷ b .gone ∷ []) count ∙ ap (λ (x : Bench). 0 ∷ length (s .log) ∷ x .steps ∷ x .gone ∷ []) (h .bench);
   queues =
@@ -79,19 +80,8 @@ finished-gives f s log₀ b flat log buffer written buffer′ report table h roo
     P : ℕ
     P = length (f .shares)
 
-    m : ℕ
-    m = 5 + 12 * length (s .log)
-
     whole : Log
     whole = record { P = length (f .shares); C = f .size; entries = s .log }
 
     count : b .entries ≡ length (s .log)
     count = omega (arith, h .count)
-
--- what the program copies into the buffer
-pub copied : (P C n : ℕ) (log x buffer buffer′ : List ℕ) (k : ℕ) → x ≡ putAt 0 (headBytes P C n) log → k ≡ 5 + 12 * n → buffer′ ≡ take k (take (5 + 12 * n) x) ++ drop k buffer
-    → buffer′ ≡ take (5 + 12 * n) (putAt 0 (headBytes P C n) log) ++ drop (5 + 12 * n) buffer
-copied P C n log x buffer buffer′ k e m d =
-    d ∙ ap (λ (j : ℕ). take j (take (5 + 12 * n) x) ++ drop j buffer) m
-    ∙ ap (λ (l : List ℕ). l ++ drop (5 + 12 * n) buffer) (take-take (5 + 12 * n) (5 + 12 * n) x (omega arith))
-    ∙ ap (λ (l : List ℕ). take (5 + 12 * n) l ++ drop (5 + 12 * n) buffer) e

@@ -15,7 +15,7 @@ use Rattle.runfile.specs.Encode.{InRanges}
 use Rattle.base.specs.Bytes.{Bytes}
 use Rattle.runfile.specs.File.{RunFile, good, fileOf, readingOf, shapeOf, recordIn, processesIn, callsIn, stepsIn, stepPlace, firstLengths, firstCalls}
 use Rattle.runfile.proofs.GoodLaws.{good-passes, shares-length, all-calls-length, schedule-length}
-use Rattle.runfile.proofs.RangeLaws.{good-ranges, calls-most}
+use Rattle.runfile.proofs.RangeLaws.{good-ranges}
 use Rattle.runfile.proofs.ReadingLaws.{reading-good, reading-refused}
 use Rattle.runfile.specs.declared.Call.{Call}
 use Rattle.runfile.specs.declared.Reading.the-variants.{Refused, Good}
@@ -26,15 +26,20 @@ use Rattle.bench.proofs.FinishLaws.{finished-gives}
 use Rattle.bench.proofs.LayoutLaws.{row-in}
 use Rattle.runs.proofs.Induction.{play-keeps, closed-keeps}
 use Rattle.bench.specs.declared.Bench.{Bench as HeldBench}
-use Rattle.bench.specs.inner.Layout.{benchIn, slotsOf, slotsIn, stateIn, Becomes, ToPlay, ToClose}
-use Rattle.runs.specs.inner.Counted.{aim, Aimed, Counted}
+use Rattle.bench.specs.inner.Layout.{benchIn, slotsOf, slotsIn, stateIn, sizesIn, Becomes, ToPlay, ToClose}
+use Rattle.runs.specs.inner.Counted.{Counted}
+use Rattle.runs.specs.inner.Sound.{Sizes, Fit, Sound}
+use Rattle.runs.specs.States.{StateOf, at-closing}
+use Rattle.runs.proofs.Sound.{sound-fresh}
+use Rattle.runs.proofs.Scripts.{sizesOf, fit, start-fresh}
+use Rattle.runs.proofs.States.{sound}
 use Rattle.runs.specs.Promise.{Gives, Ran}
 use Rattle.bench.specs.inner.Finish.{Finishes, Ends}
-use Rattle.runs.specs.Run.{Outcome, play, lowest, close, closed, closingSteps, tableSize, refusal, finished, ranAs, outcome, runOf, closingStep, played}
-use Rattle.bench.proofs.RunLaws.{bare, later, act-later, becomes-next, held-counted}
+use Rattle.runs.specs.Run.{Outcome, play, lowest, close, closed, closingSteps, tableSize, refusal, finished, outcome, runOf, closingStep, played}
+use Rattle.bench.proofs.RunLaws.{bare, later, act-later, becomes-next, held-counted, sound-held}
 use Rattle.runs.specs.State.{Bench, Process, Queue, State, fresh, nobody, processAt, scripted, startBench, start}
 use Rattle.runs.specs.Turn.{act, turn}
-use Rattle.runs.proofs.TurnLaws.{CountedAfter, counted-act, calls-aimed, counted-turn}
+use Rattle.runs.proofs.TurnLaws.{CountedAfter, counted-act, counted-turn}
 
 -- the closing does not look at the log either
 later-later : (s a x : State) → later (later s a) x ≡ later s (later a x)
@@ -60,13 +65,13 @@ close-later W C (suc k) s = by-test (ltb (lowest (s .bench .processes)) 8) refl 
 abbrev Kept : ℕ → State → Type 0
 Kept n s = CountedAfter 0 s
 
-turn-kept : (W C : ℕ) (calls : List Call) → Aimed calls → (n p : ℕ) (s : State) → Kept n s → Kept (suc n) (turn W C calls p s)
-turn-kept W C calls aimed n p s h = counted-turn 0 W C calls aimed p s h
+turn-kept : (W C : ℕ) (calls : List Call) (n p : ℕ) (s : State) → Kept n s → Kept (suc n) (turn W C calls p s)
+turn-kept W C calls n p s h = counted-turn 0 W C calls p s h
 
 closing-kept : (W C n : ℕ) (s : State) → lowest (s .bench .processes) < 8 → Kept n s → Kept (suc n) (closingStep W C s)
 closing-kept W C n s l h =
     let p = lowest (s .bench .processes) in
-    counted-act 0 W C p (processAt (s .bench) p) s h (h .b2 p) (h .aims p)
+    counted-act 0 W C p (processAt (s .bench) p) s h (h .b2 p)
 
 -- at the start all counts are 0
 pub start-counted : (shares : List ℕ) → Counted 0 (startBench shares)
@@ -76,26 +81,22 @@ start-counted shares = record {
   logged = omega arith;
   gone = omega arith;
   resets = λ q. all q (decLt q 8);
-  b2 = λ p. idle p (decLt p 8) .0;
-  aims = λ p. idle p (decLt p 8) .1;
+  b2 = λ p. idle p (decLt p 8);
 }
   where
     all : (q : ℕ) → Dec (q < 8) → getD (replicate 8 fresh) q fresh .resets ≤ 0
     all q (yes h) = subst (λ (m : Queue). m .resets ≤ 0) (sym (getD-replicate 8 q fresh fresh h)) (omega arith)
     all q (no h) = subst (λ (m : Queue). m .resets ≤ 0) (sym (List·getD-eq-default (replicate 8 fresh) fresh {n = q} (omega arith))) (omega arith)
 
-    Waits : Process → Type 0
-    Waits r = (r .b2 ≤ 0) × (aim (r .call) < 8)
+    idle : (p : ℕ) → Dec (p < 8) → getD (listOf 8 (scripted shares)) p nobody .b2 ≤ 0
+    idle p (yes h) = subst (λ (r : Process). r .b2 ≤ 0) (sym (listOf-getD 8 (scripted shares) nobody p h)) (omega arith)
+    idle p (no h) = subst (λ (r : Process). r .b2 ≤ 0) (sym (List·getD-eq-default (listOf 8 (scripted shares)) nobody {n = p} (omega arith))) (omega arith)
 
-    idle : (p : ℕ) → Dec (p < 8) → Waits (getD (listOf 8 (scripted shares)) p nobody)
-    idle p (yes h) = subst Waits (sym (listOf-getD 8 (scripted shares) nobody p h)) (omega arith, omega arith)
-    idle p (no h) = subst Waits (sym (List·getD-eq-default (listOf 8 (scripted shares)) nobody {n = p} (omega arith))) (omega arith, omega arith)
+played-kept : (f : RunFile) → Kept 0 (played f)
+played-kept f = play-keeps Kept (f .width) (f .size) (f .calls) (turn-kept (f .width) (f .size) (f .calls)) (f .schedule) 0 (start f) (start-counted (f .shares))
 
-played-kept : (f : RunFile) → Aimed (f .calls) → Kept 0 (played f)
-played-kept f aimed = play-keeps Kept (f .width) (f .size) (f .calls) (turn-kept (f .width) (f .size) (f .calls) aimed) (f .schedule) 0 (start f) (start-counted (f .shares))
-
-closed-kept : (f : RunFile) → Aimed (f .calls) → Kept 0 (closed f)
-closed-kept f aimed = closed-keeps f Kept (turn-kept (f .width) (f .size) (f .calls) aimed) (closing-kept (f .width) (f .size)) (start-counted (f .shares)) .holds
+closed-kept : (f : RunFile) → Kept 0 (closed f)
+closed-kept f = closed-keeps f Kept (turn-kept (f .width) (f .size) (f .calls)) (closing-kept (f .width) (f .size)) (start-counted (f .shares)) .holds
 
 -- a refusal gives what is promised of it
 pub refusal-gives : (o : Outcome) (n : ℕ) (buffer : List ℕ) (written : ℕ) (report table : List ℕ) → o ≡ refusal n
@@ -146,9 +147,6 @@ module _ (s : List ℕ) (bytes : Bytes s) (shape : Shape) (e : readingOf (fileOf
       ap (λ (x : Shape). firstCalls s (x .processes) (x .calls)) is-shape
       ∙ ap (λ (n : ℕ). firstCalls s n (length (f .calls))) processes ∙ ap (firstCalls s (processesIn s)) calls
 
-  aimed : Aimed (f .calls)
-  aimed = calls-aimed s (processesIn s) (callsIn s) (omega (arith, in-ranges .processes, processes))
-
   steps : shape .steps ≡ stepsIn s
   steps = ap (λ (x : Shape). x .steps) is-shape ∙ schedule-length s (good-passes s f is-good .0)
 
@@ -163,6 +161,12 @@ module _ (s : List ℕ) (bytes : Bytes s) (shape : Shape) (e : readingOf (fileOf
 
   small : C ≤ 64
   small = omega (arith, in-ranges .size, ap (λ (x : Shape). x .size) is-shape)
+
+  sizes-are : sizesIn shape ≡ sizesOf f
+  sizes-are = ap sizesIn is-shape
+
+  fits : Fit (sizesIn shape)
+  fits = subst Fit (sym sizes-are) (fit f in-ranges)
 
   -- the program's start is the start
   starts : (b : HeldBench) → benchIn b ≡ startBench (firstLengths s (shape .processes)) → stateIn C b (replicate 512 0) ≡ start f
@@ -186,20 +190,22 @@ module _ (s : List ℕ) (bytes : Bytes s) (shape : Shape) (e : readingOf (fileOf
     schedule-is : schedule ≡ f .schedule
     schedule-is = let n : from + shape .steps - from ≡ stepsIn s = omega (arith, steps) in ap (λ (k : ℕ). take k (drop from s)) n ∙ ap (λ (k : ℕ). take (stepsIn s) (drop k s)) at
 
-    below : (k : ℕ) → k < length schedule → getD schedule k 0 < 8
-    below = subst (λ (l : List ℕ). (k : ℕ) → k < length l → getD l k 0 < 8) (sym schedule-is) (λ k h. omega (arith, in-ranges .schedule k h, in-ranges .processes))
+    below : (k : ℕ) → k < length schedule → getD schedule k 0 < shape .processes
+    below = subst (λ (l : List ℕ). (k : ℕ) → k < length l → getD l k 0 < shape .processes) (sym schedule-is)
+        (λ k h. omega (arith, in-ranges .schedule k h, ap (λ (x : Shape). x .processes) is-shape))
 
     module _ (b₀ : HeldBench) (z : (benchIn b₀ ≡ startBench (firstLengths s (shape .processes))) × (b₀ .entries ≡ 0)) where
       d : benchIn b₀ ≡ startBench (firstLengths s (shape .processes))
       d = z .0
 
-      pub to-play : (flat : List ℕ) → length flat ≡ 512 → ToPlay shape schedule b₀ flat
-      to-play flat whole = record {
+      pub to-play : ToPlay shape schedule b₀ (replicate 512 0)
+      to-play = record {
         counted = subst (λ (m : ℕ). Counted m (benchIn b₀)) (sym (z .1)) (subst (Counted 0) (sym d) (start-counted (firstLengths s (shape .processes))));
         few = omega (arith, ap (λ (x : Bench). x .steps) d, ap length schedule-is, in-ranges .steps);
-        all-slots = whole;
-        size = small;
-        processes = few-processes;
+        all-slots = length-replicate {A = ℕ} 512 0;
+        fit = fits;
+        sound = subst (λ (x : Sizes). Sound x (stateIn C b₀ (replicate 512 0))) (sym sizes-are)
+            (subst (Sound (sizesOf f)) (sym (starts b₀ d)) (sound-fresh (sizesOf f) (fit f in-ranges) (start f) (start-fresh f in-ranges)));
         below = below;
       }
 
@@ -215,13 +221,18 @@ module _ (s : List ℕ) (bytes : Bytes s) (shape : Shape) (e : readingOf (fileOf
         becomes-played : Becomes C 0 log₀ (played f) b₁ flat₁ log₁
         becomes-played = subst (λ (n : ℕ). Becomes C n log₀ (played f) b₁ flat₁ log₁) (z .1) (subst (λ (x : State). Becomes C (b₀ .entries) log₀ x b₁ flat₁ log₁) plays g)
 
+        played-state : StateOf f (played f)
+        unfolding close
+        played-state = at-closing 0 (omega arith)
+
         pub to-close : length flat₁ ≡ 512 → ToClose shape b₁ flat₁
         to-close whole = record {
-          counted = held-counted C 0 log₀ (played f) b₁ flat₁ log₁ becomes-played (played-kept f aimed);
+          counted = held-counted C 0 log₀ (played f) b₁ flat₁ log₁ becomes-played (played-kept f);
           few = omega (arith, ap (λ (x : Bench). x .steps) (becomes-played .bench), schedule-steps f, in-ranges .steps);
           all-slots = whole;
-          size = small;
-          processes = few-processes;
+          fit = fits;
+          sound = sound-held (sizesIn shape) 0 log₀ (played f) b₁ flat₁ log₁ becomes-played
+              (subst (λ (x : Sizes). Sound x (played f)) (sym sizes-are) (sound f in-ranges (played f) played-state));
         }
 
         module _ (b₂ : HeldBench) (flat₂ log₂ : List ℕ) (k : Becomes C (b₁ .entries) log₁ (close W C closingSteps (stateIn C b₁ flat₁)) b₂ flat₂ log₂) where
@@ -233,55 +244,36 @@ module _ (s : List ℕ) (bytes : Bytes s) (shape : Shape) (e : readingOf (fileOf
               becomes-played b₂ flat₂ log₂ k)
 
           closed-counted : Counted (b₂ .entries) (benchIn b₂)
-          closed-counted = held-counted C 0 log₀ (closed f) b₂ flat₂ log₂ becomes-closed (closed-kept f aimed)
+          closed-counted = held-counted C 0 log₀ (closed f) b₂ flat₂ log₂ becomes-closed (closed-kept f)
 
           entries-few : length (closed f .log) ≤ length (f .calls)
           entries-few = omega (arith, entries-most f, in-ranges .count)
 
-          counts : b₂ .entries ≡ length (closed f .log)
-          counts = omega (arith, becomes-closed .count)
+          pub ends : length flat₂ ≡ 512 → Ends shape b₂ flat₂
+          ends l = record { counted = closed-counted; processes = few-processes; size = small; all-slots = l }
 
-          pub ends : (buffer : List ℕ) → length flat₂ ≡ 512 → length log₂ ≡ 3077 → 5 + 12 * shape .calls ≤ length buffer → Ends shape b₂ flat₂ log₂ buffer
-          ends buffer l m room =
-              let all = ap (λ (x : Shape). x .calls) is-shape in
-              record {
-                counted = closed-counted;
-                processes = few-processes;
-                size = small;
-                all-slots = l;
-                whole-log = m;
-                entries = omega (arith, counts, entries-few, calls-most f in-ranges);
-                room = omega (arith, counts, entries-few);
-              }
-
-          ran : (buffer : List ℕ) → 5 + 12 * shape .calls ≤ length buffer → runOf s (length buffer) ≡ ranAs f (closed f)
+          ran : (buffer : List ℕ) → 5 + 12 * shape .calls ≤ length buffer → runOf s (length buffer) ≡ finished f (closed f)
           unfolding runOf outcome
           ran buffer room =
               let all = ap (λ (x : Shape). x .calls) is-shape in
               ap (outcome (length buffer)) is-good
-              ∙ ap (λ (t : Bool). cond t (refusal 8) (ranAs f (closed f))) (le-ltb (length buffer) (5 + 12 * length (f .calls)) (omega arith))
+              ∙ ap (λ (t : Bool). cond t (refusal 8) (finished f (closed f))) (le-ltb (length buffer) (5 + 12 * length (f .calls)) (omega arith))
 
-          same-flag : closed f .bench .refused ≡ b₂ .refused
-          same-flag = ap (λ (x : Bench). x .refused) (sym (becomes-closed .bench))
-
-          pub gives-9 : (buffer : List ℕ) → 5 + 12 * shape .calls ≤ length buffer → b₂ .refused ≡ true → runOf s (length buffer) ≡ refusal 9
-          gives-9 buffer room z = ran buffer room ∙ ap (λ (t : Bool). cond t (refusal 9) (finished f (closed f))) (same-flag ∙ z)
-
-          pub gives-0 : (buffer : List ℕ) (written : ℕ) (buffer′ report table : List ℕ) → 5 + 12 * shape .calls ≤ length buffer → 3077 ≤ length log₀ → b₂ .refused ≡ false
-              → Finishes (shape .processes) C b₂ flat₂ log₂ buffer written buffer′ report table → Ran s buffer written buffer′ report table
-          gives-0 buffer written buffer′ report table room long z h =
-              subst (λ (o : Outcome). Gives o buffer written buffer′ report table)
-              (sym (ran buffer room ∙ ap (λ (t : Bool). cond t (refusal 9) (finished f (closed f))) (same-flag ∙ z)))
-              (finished-gives f (closed f) log₀ b₂ flat₂ log₂ buffer written buffer′ report table
-              (subst (λ (x : Shape). Becomes (x .size) 0 log₀ (closed f) b₂ flat₂ log₂) is-shape becomes-closed) (omega (arith, entries-few, calls-most f in-ranges))
-              (subst (λ (x : Shape). Finishes (x .processes) (x .size) b₂ flat₂ log₂ buffer written buffer′ report table) is-shape h))
+          pub gives-0 : (written : ℕ) (buffer′ report table : List ℕ) → 5 + 12 * shape .calls ≤ length log₀
+              → Finishes (shape .processes) C b₂ flat₂ log₂ written buffer′ report table → Ran s log₀ written buffer′ report table
+          gives-0 written buffer′ report table room h =
+              let all = ap (λ (x : Shape). x .calls) is-shape in
+              subst (λ (o : Outcome). Gives o log₀ written buffer′ report table) (sym (ran log₀ room))
+              (finished-gives f (closed f) log₀ b₂ flat₂ log₂ written buffer′ report table
+              (subst (λ (x : Shape). Becomes (x .size) 0 log₀ (closed f) b₂ flat₂ log₂) is-shape becomes-closed) (omega (arith, entries-few))
+              (subst (λ (x : Shape). Finishes (x .processes) (x .size) b₂ flat₂ log₂ written buffer′ report table) is-shape h))
 
   pub gives-8 : (buffer : List ℕ) → length buffer < 5 + 12 * shape .calls → runOf s (length buffer) ≡ refusal 8
   unfolding runOf outcome
   gives-8 buffer short =
       let all = ap (λ (x : Shape). x .calls) is-shape in
       ap (outcome (length buffer)) is-good
-      ∙ ap (λ (t : Bool). cond t (refusal 8) (ranAs f (closed f))) (lt-ltb (length buffer) (5 + 12 * length (f .calls)) (omega arith))
+      ∙ ap (λ (t : Bool). cond t (refusal 8) (finished f (closed f))) (lt-ltb (length buffer) (5 + 12 * length (f .calls)) (omega arith))
 
 -- of the bytes of a refused file
 pub gives-refused : (s : List ℕ) (n room : ℕ) → readingOf (fileOf s) ≡ Refused n → runOf s room ≡ refusal n

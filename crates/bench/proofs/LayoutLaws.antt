@@ -1,7 +1,7 @@
 -- Laws of the row of slots and of entries put into a log.
 use Prim.Native.Nat.{ℕ, zero, suc, _+_, _-_, _*_, _≤_, _<_}
 use mathlib.Core.Path.{_≡_, refl, sym, ap, _∙_, subst}
-use mathlib.Core.Bool.{true, false, _||_}
+use mathlib.Core.Bool.{true, false}
 use mathlib.Core.List.{List, [], _∷_, _++_, map}
 use native.Mathlib.Nat.{mul-suc, mul-le-mul-left}
 use native.Mathlib.Omega.{arith}
@@ -15,9 +15,9 @@ use Rattle.base.proofs.Lists.{listOf-length, listOf-getD}
 use Rattle.log.specs.declared.Entry.{Entry}
 use Rattle.runfile.specs.declared.Call.{Call}
 use Rattle.word.specs.Stages.{isIdle}
-use Rattle.queue.specs.Step.{stored, steppedOn}
+use Rattle.queue.specs.Step.{loaded, loadedSlot, stored, inSixteen, steppedOn}
 use Rattle.queue.specs.Packed.{unpackedStep, StepPacked}
-use Rattle.queue.proofs.PackedLaws.{step-unpacks}
+use Rattle.queue.proofs.StepLaws.{sixteen-in}
 use Rattle.word.specs.declared.Stage.{Stage}
 use Rattle.word.specs.declared.Stage.the-variants.{Idle}
 use Rattle.runfile.specs.declared.Call.the-variants.{Push}
@@ -27,11 +27,14 @@ use Rattle.queue.specs.declared.PackedWord.{PackedWord}
 use Rattle.queue.specs.declared.Store.{Store}
 use Rattle.queue.specs.declared.Store.the-variants as store
 use Rattle.bench.specs.inner.Layout.{queueIn, freshHeld, processIn, benchIn, slotsOf, slotsIn, stateIn, StepsIn, putEntries, Becomes, Moves, movedBench}
-use Rattle.runs.specs.inner.Counted.{aim, Aimed, Counted}
+use Rattle.range.specs.inner.Facts.{InRange}
+use Rattle.runs.specs.inner.Counted.{Counted}
+use Rattle.runs.specs.inner.Sound.{Sizes, Fit, processes, AllIn, Placed, Sound}
+use Rattle.runs.proofs.Sound.{turning-placed}
 use Rattle.runs.specs.Moment.{queueOf, ended, goneRound, Nothing, ends}
 use Rattle.runs.specs.State.{Process, Queue, queueAt, processAt}
 use Rattle.runs.specs.Turn.{queueAfter, processAfter, benchAfter, act, idleStep, ready, turning, turnAs, turn}
-use Rattle.runs.proofs.TurnLaws.{ready-b2, ready-aim, on-queue, entries-few, gone-most}
+use Rattle.runs.proofs.TurnLaws.{ready-b2, entries-few, gone-most}
 use Rattle.bench.specs.declared.turn.Moved.{Moved}
 use Rattle.bench.specs.declared.Bench.{Bench as HeldBench}
 use Rattle.bench.specs.declared.Process.{Process as HeldProcess}
@@ -141,7 +144,7 @@ module _ (W C : ℕ) (w : PackedWord) (flat : List ℕ) (q : ℕ) (z : Stage) (r
       let k : row ≡ stored (slotsOf C flat q) (r .store) = t .unpacks .kept ∙ ap (λ (o : Stepped). stored (slotsOf C flat q) (o .store)) (sym (t .unpacks .stepped)) in
       let l = stored-length (slotsOf C flat q) (r .store) in
       record {
-        stepped = rw (slots-get C flat q h) (t .stepped);
+        stepped = rw (slots-get C flat q h) (t .unpacks .stepped);
         slots = rw (e, slots-get C flat q h) (slots-put C q flat row whole small h (ap length k ∙ l ∙ slots-length C flat q (omega (arith, row-in C q small h))) ∙ ap (set (slotsIn C flat) q) k);
       }
 
@@ -190,9 +193,9 @@ module _ (calls : List Call) (p : ℕ) (b : HeldBench) (w r : HeldProcess) (e : 
   pub b2-counted : (m : ℕ) → Counted m (benchIn b) → r .b2 ≤ b .steps
   b2-counted m h = omega (arith, h .b2 p, ready-b2 calls (b .steps) (processAt (benchIn b) p), ap (λ (x : Process). x .b2) now)
 
-  pub queue-counted : (m : ℕ) → Aimed calls → p < 8 → Counted m (benchIn b) → queueOf p (r .call) < 8
-  queue-counted m aimed l h =
-      on-queue p (r .call) l (subst (λ (x : Process). aim (x .call) < 8) (sym now) (ready-aim calls aimed (b .steps) (processAt (benchIn b) p) (h .aims p)))
+  -- it is in range, and its call is on one of the queues
+  pub placed-now : (f : Sizes) → Fit f → AllIn (processes f) calls → (C : ℕ) (flat : List ℕ) → Sound f (stateIn C b flat) → p < processes f → Placed f p (processIn r)
+  placed-now f h all C flat v lt = subst (Placed f p) (sym now) (turning-placed f h calls all (stateIn C b flat) v p lt)
 
   module _ (W C : ℕ) (flat log : List ℕ) (b′ : HeldBench) where
     pub turn-idles : isIdle (r .stage) ≡ true → benchIn b′ ≡ idleStep (benchIn b) → b′ .entries ≡ b .entries
@@ -218,7 +221,7 @@ module _ (W C p n entries : ℕ) (r : Process) (before : HeldQueue) (owner : Pro
 -- what the program's parts of a step of a process come to: before and owner are the records of its queue and of the queue's owner
 module _ (W C p : ℕ) (r : HeldProcess) (b : HeldBench) (flat log : List ℕ) (q : ℕ) (before : HeldQueue) (owner : HeldProcess) (m : Moved) (flat′ log′ : List ℕ)
     (v : Moves W C p (b .steps) (b .entries) (processIn r) before (processIn owner) flat log m flat′ log′) (e : q ≡ queueOf p (r .call))
-    (f : before ≡ getD (b .queues) q freshHeld) (g : owner ≡ getD (b .processes) q nobodyHeld) where
+    (f : before ≡ getD (b .queues) q freshHeld) (g : owner ≡ getD (b .processes) q nobodyHeld) (i : InRange W C C (queueAt (benchIn b) q .word) (r .stage)) where
   before-is : queueIn before ≡ queueAt (benchIn b) q
   before-is = ap queueIn f ∙ sym (queue-is b q)
 
@@ -230,8 +233,8 @@ module _ (W C p : ℕ) (r : HeldProcess) (b : HeldBench) (flat log : List ℕ) (
 
   stepped : unpackedStep (v .step) ≡ steppedOn W C (queueAt (benchIn b) q .word) (getD (slotsIn C flat) q []) (r .stage)
   stepped =
-      ap unpackedStep (here .stepped) ∙ step-unpacks W C (before .word) (getD (slotsIn C flat) q []) (r .stage)
-      ∙ ap (λ (x : Queue). steppedOn W C (x .word) (getD (slotsIn C flat) q []) (r .stage)) before-is
+      here .stepped ∙ ap (λ (x : Queue). inSixteen (steppedOn W C (x .word) (getD (slotsIn C flat) q []) (r .stage))) before-is
+      ∙ sixteen-in W C C (queueAt (benchIn b) q .word) (loaded (getD (slotsIn C flat) q []) (loadedSlot (r .stage))) (r .stage) i
 
   over-is : v .over ≡ ended p (b .steps) (processIn r) (processAt (benchIn b) q) (queueAt (benchIn b) q .word .top) (v .step .next)
   over-is =
@@ -245,7 +248,6 @@ module _ (W C p : ℕ) (r : HeldProcess) (b : HeldBench) (flat log : List ℕ) (
         ∙ ap (set (map processIn (b .processes)) p) (v .process ∙ ap (λ (x : Queue). processAfter (b .steps) (x .resets) (processIn r) (v .step .next)) before-is)) i;
     steps = b .steps + 1;
     gone = b .gone + (v .gone ∙ ap (λ (x : Queue). goneRound (processIn r) (x .resets) (v .step .next)) before-is) i;
-    refused = b .refused || v .refused i;
   }
 
   pub moves-become : (b′ : HeldBench) → b′ ≡ movedBench b p q m → Becomes C (b .entries) log (act W C p (processIn r) (stateIn C b flat)) b′ flat′ log′

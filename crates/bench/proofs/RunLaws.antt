@@ -5,6 +5,7 @@ use mathlib.Core.Bool.{Bool, true, false, cond}
 use mathlib.Core.List.{List, [], _∷_, _++_, append-nil}
 use native.Mathlib.Numerals.{add-one}
 use native.Mathlib.Omega.{arith}
+use native.Mathlib.Decide.{decLt}
 use borrow.Author.Tests.{leb-true, lt-ltb, le-ltb}
 use lib.Dec.{ltb, leb}
 use lib.ListN.{length, getD, take, drop, length-append, length-drop}
@@ -17,13 +18,15 @@ use Rattle.runfile.specs.declared.Call.{Call}
 use Rattle.runs.proofs.ClosingLaws.{lowest-busy}
 use Rattle.runs.proofs.Induction.{play-next, close-next, close-early}
 use Rattle.bench.specs.inner.Layout.{benchIn, stateIn, putEntries, Becomes}
-use Rattle.runs.specs.inner.Counted.{Aimed, Counted}
+use Rattle.runs.specs.inner.Counted.{Counted}
+use Rattle.runs.specs.inner.Sound.{Sizes, Fit, processes, AllIn, Sound}
+use Rattle.runs.proofs.Sound.{sound-turn}
 use Rattle.bench.specs.declared.Bench.{Bench as HeldBench}
 use Rattle.bench.proofs.LayoutLaws.{put-append}
 use Rattle.runs.specs.Run.{play, lowest, close}
 use Rattle.runs.specs.State.{Bench, Process, State, processAt}
 use Rattle.runs.specs.Turn.{ready, act, idle, turnAs, turn}
-use Rattle.base.proofs.Cases.{either-way}
+use Rattle.base.proofs.Cases.{either-way, ever}
 use Rattle.runs.proofs.TurnLaws.{CountedAfter, counted-turn}
 
 -- the state with nothing in its log yet, and a state with what comes later
@@ -76,10 +79,25 @@ becomes-next C n F adds s log₀ b flat log h b′ flat′ log′ g =
           ∙ sym (ap (λ (x : State). putEntries n (x .log) log₀) (adds s));
     }
 
--- what the program's loops keep: they stand for a state s, and every count fits
-pub record Along (C n : ℕ) (log₀ : List ℕ) (s : State) (b : HeldBench) (flat log : List ℕ) : Type 0 where
-  pub becomes : Becomes C n log₀ s b flat log
+-- what the program's loops keep: they stand for a state s, every count fits, and all is in range
+pub record Along (f : Sizes) (n : ℕ) (log₀ : List ℕ) (s : State) (b : HeldBench) (flat log : List ℕ) : Type 0 where
+  pub becomes : Becomes (f .size) n log₀ s b flat log
   pub counted : Counted (b .entries) (benchIn b)
+  pub sound : Sound f (stateIn (f .size) b flat)
+
+-- what is in range does not depend on the log
+pub sound-held : (f : Sizes) (n : ℕ) (log₀ : List ℕ) (s : State) (b : HeldBench) (flat log : List ℕ) → Becomes (f .size) n log₀ s b flat log → Sound f s → Sound f (stateIn (f .size) b flat)
+sound-held f n log₀ s b flat log g v =
+    subst (Sound f) (λ i. record { bench = sym (g .bench) i; slots = sym (g .slots) i; log = [] }) (record {
+      queues = v .queues;
+      records = v .records;
+      tables = v .tables;
+      words = v .words;
+      sizes = v .sizes;
+      each = v .each;
+      later = v .later;
+      absent = v .absent;
+    })
 
 pub put-same-length : (at : ℕ) (bytes buffer : List ℕ) → length (putAt at bytes buffer) ≡ length buffer
 put-same-length at bytes buffer =
@@ -92,12 +110,13 @@ put-length : (n : ℕ) (es : List Entry) (log : List ℕ) → length (putEntries
 put-length n [] log = refl
 put-length n (e ∷ es) log = put-length (suc n) es (putAt (5 + 12 * n) (entryBytes e) log) ∙ put-same-length (5 + 12 * n) (entryBytes e) log
 
-pub along-length : (C n : ℕ) (log₀ : List ℕ) (s : State) (b : HeldBench) (flat log : List ℕ) → Along C n log₀ s b flat log → length log ≡ length log₀
-along-length C n log₀ s b flat log h = ap length (h .becomes .bytes) ∙ put-length n (s .log) log₀
+pub along-length : (f : Sizes) (n : ℕ) (log₀ : List ℕ) (s : State) (b : HeldBench) (flat log : List ℕ) → Along f n log₀ s b flat log → length log ≡ length log₀
+along-length f n log₀ s b flat log h = ap length (h .becomes .bytes) ∙ put-length n (s .log) log₀
 
 -- nothing is done yet
-pub along-start : (C : ℕ) (b : HeldBench) (flat log : List ℕ) → Counted (b .entries) (benchIn b) → Along C (b .entries) log (stateIn C b flat) b flat log
-along-start C b flat log h = record { becomes = record { bench = refl; count = omega arith; slots = refl; bytes = refl }; counted = h }
+pub along-start : (f : Sizes) (b : HeldBench) (flat log : List ℕ) → Counted (b .entries) (benchIn b) → Sound f (stateIn (f .size) b flat)
+    → Along f (b .entries) log (stateIn (f .size) b flat) b flat log
+along-start f b flat log h v = record { becomes = record { bench = refl; count = omega arith; slots = refl; bytes = refl }; counted = h; sound = v }
 
 -- the counts of the state that the program stands for, and back
 pub held-counted : (C n : ℕ) (log₀ : List ℕ) (s : State) (b : HeldBench) (flat log : List ℕ) → Becomes C n log₀ s b flat log → CountedAfter n s
@@ -105,18 +124,26 @@ pub held-counted : (C n : ℕ) (log₀ : List ℕ) (s : State) (b : HeldBench) (
 held-counted C n log₀ s b flat log g h =
     subst (λ (m : ℕ). Counted m (benchIn b)) (sym (g .count)) (subst (Counted (n + length (s .log))) (sym (g .bench)) h)
 
-told-counted : (C n : ℕ) (log₀ : List ℕ) (s : State) (b : HeldBench) (flat log : List ℕ) → Along C n log₀ s b flat log → CountedAfter n s
-told-counted C n log₀ s b flat log h =
+told-counted : (f : Sizes) (n : ℕ) (log₀ : List ℕ) (s : State) (b : HeldBench) (flat log : List ℕ) → Along f n log₀ s b flat log → CountedAfter n s
+told-counted f n log₀ s b flat log h =
     subst (Counted (n + length (s .log))) (h .becomes .bench) (subst (λ (m : ℕ). Counted m (benchIn b)) (h .becomes .count) (h .counted))
 
-module _ (W C n : ℕ) (log₀ : List ℕ) (s : State) (b : HeldBench) (flat log : List ℕ) (h : Along C n log₀ s b flat log) (b′ : HeldBench) (flat′ log′ : List ℕ) where
-  pub along-turn : (calls : List Call) → Aimed calls → (p : ℕ) → Becomes C (b .entries) log (turn W C calls p (stateIn C b flat)) b′ flat′ log′ → Along C n log₀ (turn W C calls p s) b′ flat′ log′
-  along-turn calls aimed p g = record {
+module _ (f : Sizes) (fit : Fit f) (n : ℕ) (log₀ : List ℕ) (s : State) (b : HeldBench) (flat log : List ℕ) (h : Along f n log₀ s b flat log) (b′ : HeldBench) (flat′ log′ : List ℕ) where
+  pub along-turn : (calls : List Call) → AllIn (processes f) calls → (p : ℕ) → p < processes f
+      → Becomes (f .size) (b .entries) log (turn (f .width) (f .size) calls p (stateIn (f .size) b flat)) b′ flat′ log′ → Along f n log₀ (turn (f .width) (f .size) calls p s) b′ flat′ log′
+  along-turn calls all p lt g = record {
     becomes = turned;
-    counted = held-counted C n log₀ (turn W C calls p s) b′ flat′ log′ turned (counted-turn n W C calls aimed p s (told-counted C n log₀ s b flat log h));
+    counted = held-counted C n log₀ (turn W C calls p s) b′ flat′ log′ turned (counted-turn n W C calls p s (told-counted f n log₀ s b flat log h));
+    sound = sound-held f (b .entries) log (turn W C calls p (stateIn C b flat)) b′ flat′ log′ g (sound-turn f fit calls all (stateIn C b flat) (h .sound) p lt);
   }
     where
-      turned : Becomes C n log₀ (turn W C calls p s) b′ flat′ log′
+      W : ℕ
+      W = f .width
+
+      C : ℕ
+      C = f .size
+
+      turned : Becomes (f .size) n log₀ (turn (f .width) (f .size) calls p s) b′ flat′ log′
       turned = becomes-next C n (turn W C calls p) (turn-later W C calls p) s log₀ b flat log (h .becomes) b′ flat′ log′ g
 
 pub turn-steps : (W C : ℕ) (calls : List Call) (p : ℕ) (s : State) → turn W C calls p s .bench .steps ≡ s .bench .steps + 1
@@ -124,33 +151,48 @@ unfolding turn turnAs act
 turn-steps W C calls p s = either-way (λ (x : State). x .bench .steps ≡ s .bench .steps + 1) (isIdle (ready calls (s .bench .steps) (processAt (s .bench) p) .stage)) (λ e. refl) (λ e. refl)
 
 -- the loop over the schedule, i steps on
-abbrev pub Played : ℕ → ℕ → ℕ → List Call → List ℕ → List ℕ → State → ℕ → HeldBench → List ℕ → List ℕ → Type 0
-Played W C n calls ps log₀ s₀ i b flat log = Along C n log₀ (play W C calls (take i ps) s₀) b flat log × (b .steps ≡ s₀ .bench .steps + i)
+abbrev pub Played : Sizes → ℕ → List Call → List ℕ → List ℕ → State → ℕ → HeldBench → List ℕ → List ℕ → Type 0
+Played f n calls ps log₀ s₀ i b flat log = Along f n log₀ (play (f .width) (f .size) calls (take i ps) s₀) b flat log × (b .steps ≡ s₀ .bench .steps + i)
 
-module _ (W C n : ℕ) (calls : List Call) (ps : List ℕ) (log₀ : List ℕ) (s₀ : State) (i : ℕ) (b : HeldBench) (flat log : List ℕ) where
-  pub played-next : Aimed calls → (p : ℕ) (b′ : HeldBench) (flat′ log′ : List ℕ) → Played W C n calls ps log₀ s₀ i b flat log → i < length ps → p ≡ getD ps i 0
-      → Becomes C (b .entries) log (turn W C calls p (stateIn C b flat)) b′ flat′ log′ → Played W C n calls ps log₀ s₀ (i + 1) b′ flat′ log′
-  played-next aimed p b′ flat′ log′ h l e g = (
-    subst (λ (x : State). Along C n log₀ x b′ flat′ log′) (ap (λ (q : ℕ). turn W C calls q (play W C calls (take i ps) s₀)) e ∙ sym (play-next W C calls ps i s₀ l))
-        (along-turn W C n log₀ (play W C calls (take i ps) s₀) b flat log (h .0) b′ flat′ log′ calls aimed p g),
-    omega (arith, turn-steps W C calls p (stateIn C b flat), ap (λ (x : Bench). x .steps) (g .bench), h .1),
-  )
+module _ (f : Sizes) (n : ℕ) (calls : List Call) (ps : List ℕ) (log₀ : List ℕ) (s₀ : State) (i : ℕ) (b : HeldBench) (flat log : List ℕ) where
+  pub played-next : Fit f → AllIn (processes f) calls → (p : ℕ) (b′ : HeldBench) (flat′ log′ : List ℕ) → Played f n calls ps log₀ s₀ i b flat log → i < length ps → p ≡ getD ps i 0
+      → p < processes f → Becomes (f .size) (b .entries) log (turn (f .width) (f .size) calls p (stateIn (f .size) b flat)) b′ flat′ log′
+      → Played f n calls ps log₀ s₀ (i + 1) b′ flat′ log′
+  played-next fit all p b′ flat′ log′ h l e lt g =
+      let W = f .width in
+      let C = f .size in (
+        subst (λ (x : State). Along f n log₀ x b′ flat′ log′) (ap (λ (q : ℕ). turn W C calls q (play W C calls (take i ps) s₀)) e ∙ sym (play-next W C calls ps i s₀ l))
+            (along-turn f fit n log₀ (play W C calls (take i ps) s₀) b flat log (h .0) b′ flat′ log′ calls all p lt g),
+        omega (arith, turn-steps W C calls p (stateIn C b flat), ap (λ (x : Bench). x .steps) (g .bench), h .1),
+      )
 
-  pub played-all : Played W C n calls ps log₀ s₀ i b flat log → length ps ≤ i → Becomes C n log₀ (play W C calls ps s₀) b flat log
-  played-all h l = subst (λ (qs : List ℕ). Becomes C n log₀ (play W C calls qs s₀) b flat log) (take-all i ps l) (h .0 .becomes)
+  pub played-all : Played f n calls ps log₀ s₀ i b flat log → length ps ≤ i → Becomes (f .size) n log₀ (play (f .width) (f .size) calls ps s₀) b flat log
+  played-all h l = subst (λ (qs : List ℕ). Becomes (f .size) n log₀ (play (f .width) (f .size) calls qs s₀) b flat log) (take-all i ps l) (h .0 .becomes)
 
-pub played-start : (W C : ℕ) (calls : List Call) (ps : List ℕ) (b : HeldBench) (flat log : List ℕ) → Counted (b .entries) (benchIn b)
-    → Played W C (b .entries) calls ps log (stateIn C b flat) 0 b flat log
+pub played-start : (f : Sizes) (calls : List Call) (ps : List ℕ) (b : HeldBench) (flat log : List ℕ) → Counted (b .entries) (benchIn b) → Sound f (stateIn (f .size) b flat)
+    → Played f (b .entries) calls ps log (stateIn (f .size) b flat) 0 b flat log
 unfolding play
-played-start W C calls ps b flat log h = (along-start C b flat log h, omega arith)
+played-start f calls ps b flat log h v = (along-start f b flat log h v, omega arith)
 
 -- the loop of the closing, i steps on
-abbrev pub Closing : ℕ → ℕ → ℕ → List ℕ → State → ℕ → HeldBench → List ℕ → List ℕ → Type 0
-Closing W C n log₀ s₀ i b flat log = Along C n log₀ (close W C i s₀) b flat log × (b .steps ≤ 4096 + i)
+abbrev pub Closing : Sizes → ℕ → List ℕ → State → ℕ → HeldBench → List ℕ → List ℕ → Type 0
+Closing f n log₀ s₀ i b flat log = Along f n log₀ (close (f .width) (f .size) i s₀) b flat log × (b .steps ≤ 4096 + i)
 
-pub closing-start : (W C : ℕ) (b : HeldBench) (flat log : List ℕ) → Counted (b .entries) (benchIn b) → b .steps ≤ 4096 → Closing W C (b .entries) log (stateIn C b flat) 0 b flat log
+pub closing-start : (f : Sizes) (b : HeldBench) (flat log : List ℕ) → Counted (b .entries) (benchIn b) → Sound f (stateIn (f .size) b flat) → b .steps ≤ 4096
+    → Closing f (b .entries) log (stateIn (f .size) b flat) 0 b flat log
 unfolding close
-closing-start W C b flat log h k = (along-start C b flat log h, omega arith)
+closing-start f b flat log h v k = (along-start f b flat log h v, omega arith)
+
+-- the lowest half-done process is one of the run's
+pub closing-below : (f : Sizes) (s : State) → Sound f s → (p : ℕ) → p ≡ lowest (s .bench .processes) → p < 8 → p < processes f
+closing-below f s v p e l = split (decLt p (processes f))
+  where
+    busy : isIdle (processAt (s .bench) p .stage) ≡ false
+    busy = subst (λ (q : ℕ). isIdle (processAt (s .bench) q .stage) ≡ false) (sym e) (lowest-busy (s .bench .processes) (omega (arith, e, v .records)))
+
+    split : Dec (p < processes f) → p < processes f
+    split (yes h) = h
+    split (no h) = ever (sym (ap isIdle (v .absent p (omega arith))) ∙ busy)
 
 -- a half-done process begins no call: its turn is the next step of its call
 half-turn : (W C : ℕ) (calls : List Call) (p : ℕ) (s : State) → isIdle (processAt (s .bench) p .stage) ≡ false
@@ -158,16 +200,23 @@ half-turn : (W C : ℕ) (calls : List Call) (p : ℕ) (s : State) → isIdle (pr
 unfolding turn turnAs
 half-turn W C calls p s e = rw (e, e) refl
 
-module _ (W C n : ℕ) (log₀ : List ℕ) (s₀ : State) (i : ℕ) (b : HeldBench) (flat log : List ℕ) (h : Closing W C n log₀ s₀ i b flat log) where
+module _ (f : Sizes) (n : ℕ) (log₀ : List ℕ) (s₀ : State) (i : ℕ) (b : HeldBench) (flat log : List ℕ) (h : Closing f n log₀ s₀ i b flat log) where
+  abbrev W : ℕ
+  W = f .width
+
+  abbrev C : ℕ
+  C = f .size
+
   same : benchIn b ≡ close W C i s₀ .bench
   same = h .0 .becomes .bench
 
   -- a schedule of the lowest half-done process alone is a step of the closing
-  pub closing-next : (calls : List Call) → Aimed calls → (p : ℕ) (b′ : HeldBench) (flat′ log′ : List ℕ) → p ≡ lowest (benchIn b .processes) → p < 8
-      → Becomes C (b .entries) log (play W C calls (p ∷ []) (stateIn C b flat)) b′ flat′ log′ → Closing W C n log₀ s₀ (i + 1) b′ flat′ log′
+  pub closing-next : Fit f → (calls : List Call) → AllIn (processes f) calls → (p : ℕ) (b′ : HeldBench) (flat′ log′ : List ℕ) → p ≡ lowest (benchIn b .processes) → p < 8
+      → Becomes C (b .entries) log (play W C calls (p ∷ []) (stateIn C b flat)) b′ flat′ log′ → Closing f n log₀ s₀ (i + 1) b′ flat′ log′
   unfolding play
-  closing-next calls aimed p b′ flat′ log′ e l g = (
-    subst (λ (x : State). Along C n log₀ x b′ flat′ log′) (sym step) (along-turn W C n log₀ (close W C i s₀) b flat log (h .0) b′ flat′ log′ calls aimed p g),
+  closing-next fit calls all p b′ flat′ log′ e l g = (
+    subst (λ (x : State). Along f n log₀ x b′ flat′ log′) (sym step)
+        (along-turn f fit n log₀ (close W C i s₀) b flat log (h .0) b′ flat′ log′ calls all p (closing-below f (stateIn C b flat) (h .0 .sound) p e l) g),
     omega (arith, turn-steps W C calls p (stateIn C b flat), ap (λ (x : Bench). x .steps) (g .bench)),
   )
     where

@@ -53,14 +53,13 @@ pub struct Process {
     pub resets_at_t1: u16,
 }
 
-// The state of a run, but for the slots and the log, which lie in arrays of their own. `refused`: a step was out of range.
+// The state of a run, but for the slots and the log, which lie in arrays of their own.
 pub struct Bench {
     pub queues: [Queue; 8],
     pub processes: [Process; 8],
     pub entries: u16,
     pub steps: u16,
     pub gone: u16,
-    pub refused: bool,
 }
 
 // What a step gives the log: nothing, or the entry of the call that it ended.
@@ -78,28 +77,25 @@ fn refuse(number: u8, report: &mut [u16; 4], table: &mut [u16; TABLE_SIZE]) -> u
     0
 }
 
-// Writes the log into the front of the buffer, the counts and the table.
+// Writes the head of the log before the entries in the buffer, the counts and the table.
 fn finish(
     shape: Shape,
     state: Bench,
     slots: &[u16],
-    log: &mut [u8],
     buffer: &mut [u8],
     report: &mut [u16; 4],
     table: &mut [u16; TABLE_SIZE],
 ) -> usize
-    requires { ⌜ Ends shape state (now slots) (now log) (now buffer) ⌝ }
-    ensures { λ r. ⌜ Finishes (shape .processes) (shape .size) state (now (slots .entry)) (now (log .entry)) (now (buffer .entry)) r (now (buffer .exit)) (now (report .exit)) (now (table .exit)) ⌝ }
+    requires { ⌜ Ends shape state (now slots) ⌝ }
+    ensures { λ r. ⌜ Finishes (shape .processes) (shape .size) state (now (slots .entry)) (now (buffer .entry)) r (now (buffer .exit)) (now (report .exit)) (now (table .exit)) ⌝ }
 {
-    log::put_head(log, shape.processes, shape.size, state.entries);
-    let written = log::HEAD_LENGTH + log::ENTRY_LENGTH * (state.entries as usize);
-    bytes::copy(&log[..written], buffer);
+    log::put_head(buffer, shape.processes, shape.size, state.entries);
     *report = [0, state.entries, state.steps, state.gone];
     table::fill(table, shape.processes, shape.size, state, slots);
-    written
+    log::HEAD_LENGTH + log::ENTRY_LENGTH * (state.entries as usize)
 }
 
-// The run of a good file.
+// The run of a good file. Nothing is refused after its first step, so that the entries are written straight into the buffer.
 fn run_good(
     file: &[u8],
     shape: Shape,
@@ -115,16 +111,12 @@ fn run_good(
         return refuse(8, report, table);
     }
     let mut slots = [0u16; ALL_SLOTS];
-    let mut log = [0u8; log::LONGEST_LOG];
     let started = start::start(file, shape.processes);
     let from = shape.schedule_place();
     let to = from + shape.steps as usize;
-    let played = loops::play(file, shape, &file[from..to], started, &mut slots, &mut log);
-    let closed = loops::close(file, shape, played, &mut slots, &mut log);
-    if closed.refused {
-        return refuse(9, report, table);
-    }
-    finish(shape, closed, &slots, &mut log, buffer, report, table)
+    let played = loops::play(file, shape, &file[from..to], started, &mut slots, buffer);
+    let closed = loops::close(file, shape, played, &mut slots, buffer);
+    finish(shape, closed, &slots, buffer, report, table)
 }
 
 // Runs a file. Gives the number of bytes of the log that it wrote at the front of the buffer, and lends back number, entries, steps and

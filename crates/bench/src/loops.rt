@@ -52,7 +52,6 @@ pub(crate) fn play(
         after.processes[at] = process;
         after.entries = after.entries + moved.more;
         after.gone = after.gone + moved.gone;
-        after.refused = after.refused | moved.refused;
     }
     after
 }

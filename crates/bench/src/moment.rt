@@ -124,7 +124,6 @@ pub(crate) fn ended(p: u8, n: u16, of: Process, owner: Process, t: u16, next: Ne
         Next::Nil => Ended::Call(nil_entry(p, n, of)),
         Next::Lost => Ended::Call(entry(p, n, of, What::TopLost, 0, log::NO_MOMENT)),
         Next::Full => Ended::Call(entry(p, n, of, What::Full, node, log::NO_MOMENT)),
-        Next::Refused => Ended::Nothing,
     }
 }
 
@@ -146,6 +145,5 @@ pub(crate) fn gone_round(of: Process, resets: u16, next: Next) -> u16
         Next::Nil => 0,
         Next::Lost => 0,
         Next::Full => 0,
-        Next::Refused => 0,
     }
 }

@@ -79,6 +79,5 @@ pub(crate) fn start(file: &[u8], processes: u8) -> Bench
         entries: 0,
         steps: 0,
         gone: 0,
-        refused: false,
     }
 }

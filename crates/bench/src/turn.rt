@@ -8,7 +8,7 @@ ghost use Rattle.queue.specs.Step.{stageAfter};
 ghost use Rattle.queue.specs.Packed.{unpackedStep};
 ghost use Rattle.bench.specs.inner.Layout.{allSlots, queueIn, processIn, endedIn, putEntries, StepsIn, Moves};
 ghost use Rattle.runfile.specs.File.{firstCalls};
-ghost use Rattle.runs.specs.Turn.{firstStage, begun as begunOf, processAfter, queueAfter, isRefused, entriesIn, ready as readyOf};
+ghost use Rattle.runs.specs.Turn.{firstStage, begun as begunOf, processAfter, queueAfter, entriesIn, ready as readyOf};
 use crate::Ended;
 use crate::Process;
 use crate::Queue;
@@ -54,21 +54,6 @@ fn stage_after(next: Next) -> Stage
         Next::Nil => Stage::Idle,
         Next::Lost => Stage::Idle,
         Next::Full => Stage::Idle,
-        Next::Refused => Stage::Idle,
-    }
-}
-
-fn is_refused(next: Next) -> bool
-    ensures { λ r. ⌜ r ≡ isRefused next ⌝ }
-{
-    match next {
-        Next::Going(_) => false,
-        Next::Done => false,
-        Next::Node(_) => false,
-        Next::Nil => false,
-        Next::Lost => false,
-        Next::Full => false,
-        Next::Refused => true,
     }
 }
 
@@ -147,7 +132,6 @@ pub(crate) struct Moved {
     pub process: Process,
     pub more: u16,
     pub gone: u16,
-    pub refused: bool,
 }
 
 // Step n of process p, after so many entries: of, before and owner are the records of the process, of its call's queue and of the queue's owner.
@@ -181,7 +165,6 @@ pub(crate) fn moves(
         process,
         more: count(over),
         gone: moment::gone_round(of, before.resets, next),
-        refused: is_refused(next),
     }
 }
 

@@ -9,8 +9,8 @@ use lib.ListN.{length}
 use Rattle.range.specs.Range.{inRange}
 use Rattle.range.specs.inner.Facts.{SizesIn, WordIn, StageIn, InRange}
 use Rattle.range.proofs.RangeLaws.{in-range, range-in}
-use Rattle.queue.specs.Step.{leaves, rowOf, loadedSlot, loaded, stored, steppedOn, stageAfter, resultOf as nextResult, StepOn}
-use Rattle.queue.proofs.StepLaws.{Answered, answered}
+use Rattle.queue.specs.Step.{rowOf, loadedSlot, loaded, stored, steppedOn, stageAfter, resultOf as nextResult, StepOn}
+use Rattle.queue.proofs.StepLaws.{sixteen-in}
 use Rattle.desk.specs.Refusals.{OfB, OfAge, From, Refuses, width-high, size-low, size-high, slots-not-C, bottom-above, top-above, b-above, t-above, word-tag, stage-tag, push-b, take-t, pop-b}
 use Rattle.desk.specs.Desk.{answerOf, numberOf, stageOf, resultOf, deskAnswer, deskWord, deskSlots, AtDesk}
 use Rattle.word.specs.declared.Word.{Word}
@@ -22,80 +22,74 @@ use Rattle.queue.specs.declared.Stepped.{Stepped}
 use Rattle.desk.specs.declared.Answer.{Answer}
 use Rattle.desk.specs.declared.Answer.the-variants.{Going, Refused}
 
--- what a row answers is no refusal: the desk's values of it are the step's
-record Told (s : Stage) (n : Next) : Type 0 where
-  number : numberOf (answerOf s n) ≡ 0
-  stage : stageOf (answerOf s n) ≡ stageAfter n
+-- the desk's values of an answer that is no refusal are the step's
+pub number-told : (n : Next) → numberOf (answerOf n) ≡ 0
+number-told (next.Going z) = refl
+number-told next.Done = refl
+number-told (next.Node x) = refl
+number-told next.Nil = refl
+number-told next.Lost = refl
+number-told next.Full = refl
 
-told : (s : Stage) (n : Next) → Answered n → Told s n
-told s (next.Going z) h = record { number = refl; stage = refl }
-told s next.Done h = record { number = refl; stage = refl }
-told s (next.Node x) h = record { number = refl; stage = refl }
-told s next.Nil h = record { number = refl; stage = refl }
-told s next.Lost h = record { number = refl; stage = refl }
-told s next.Full h = record { number = refl; stage = refl }
-told s next.Refused h = absurd h
+pub stage-told : (n : Next) → stageOf (answerOf n) ≡ stageAfter n
+stage-told (next.Going z) = refl
+stage-told next.Done = refl
+stage-told (next.Node x) = refl
+stage-told next.Nil = refl
+stage-told next.Lost = refl
+stage-told next.Full = refl
 
-result-told : (s : Stage) (n : Next) → resultOf (answerOf s n) ≡ nextResult n
-result-told s (next.Going z) = refl
-result-told s next.Done = refl
-result-told s (next.Node x) = refl
-result-told s next.Nil = refl
-result-told s next.Lost = refl
-result-told s next.Full = refl
-result-told s next.Refused = refl
-
--- 10 is given exactly where the step is out of range, and the stage is then the one that was lent
-pub refused-exactly : (W C : ℕ) (w : Word) (slots : List ℕ) (s : Stage) →
-    (numberOf (deskAnswer W C w slots s) ≡ cond (inRange W C (length slots) w s) 0 10)
-    × (stageOf (deskAnswer W C w slots s) ≡ cond (inRange W C (length slots) w s) (stageAfter (steppedOn W C w slots s .next)) s)
-refused-exactly W C w slots s = by (inRange W C (length slots) w s)
-  where
-    row : Stepped
-    row = rowOf W C w (loaded slots (loadedSlot s)) s
-
-    fits : Told s (row .next)
-    fits = told s (row .next) (answered W C w (loaded slots (loadedSlot s)) s)
-
-    by : (t : Bool) → let n : Next = cond t row (leaves w next.Refused) .next in
-        (numberOf (answerOf s n) ≡ cond t 0 10) × (stageOf (answerOf s n) ≡ cond t (stageAfter n) s)
-    by true = (fits .number, fits .stage)
-    by false = (refl, refl)
-
--- the desk's step is the one of `step_on`, which a run's is too, with its answer in the desk's words
-pub at-desk : {W C : ℕ} {w : Word} {slots after : List ℕ} {s : Stage} {r : Stepped} {answer : Answer} →
-    StepOn W C w slots s r after → answer ≡ answerOf s (r .next) → AtDesk W C w slots s answer (r .word) after
-at-desk {W} {C} {w} {slots} {s = s} {answer = answer} h e =
-    let d : answer ≡ deskAnswer W C w slots s = e ∙ ap (λ (z : Stepped). answerOf s (z .next)) (h .stepped) in
-    record {
-      answered = d;
-      numbered = ap numberOf d ∙ refused-exactly W C w slots s .0;
-      staged = ap stageOf d ∙ refused-exactly W C w slots s .1;
-      resulted = ap resultOf d ∙ result-told s (steppedOn W C w slots s .next);
-      altered = ap (λ (z : Stepped). z .word) (h .stepped);
-      kept = h .kept;
-    }
+result-told : (n : Next) → resultOf (answerOf n) ≡ nextResult n
+result-told (next.Going z) = refl
+result-told next.Done = refl
+result-told (next.Node x) = refl
+result-told next.Nil = refl
+result-told next.Lost = refl
+result-told next.Full = refl
 
 module _ (W C : ℕ) (w : Word) (slots : List ℕ) (s : Stage) where
-  as-stepped : (r : Stepped) → steppedOn W C w slots s ≡ r →
-      (deskAnswer W C w slots s ≡ answerOf s (r .next)) × (deskWord W C w slots s ≡ r .word) × (deskSlots W C w slots s ≡ stored slots (r .store))
-  as-stepped r e = (ap (λ (z : Stepped). answerOf s (z .next)) e, ap (λ (z : Stepped). z .word) e, ap (λ (z : Stepped). stored slots (z .store)) e)
-
   -- in range the desk does the table's row
   pub row-done : inRange W C (length slots) w s ≡ true →
       let r = rowOf W C w (loaded slots (loadedSlot s)) s in
-      (deskAnswer W C w slots s ≡ answerOf s (r .next)) × (deskWord W C w slots s ≡ r .word) × (deskSlots W C w slots s ≡ stored slots (r .store))
-  row-done e = as-stepped (rowOf W C w (loaded slots (loadedSlot s)) s) (rw e)
+      (deskAnswer W C w slots s ≡ answerOf (r .next)) × (deskWord W C w slots s ≡ r .word) × (deskSlots W C w slots s ≡ stored slots (r .store))
+  row-done e = rw e (refl, refl, refl)
 
   -- a refusal gives the stage back as lent, and keeps the word and the slots
   pub refused-keeps : inRange W C (length slots) w s ≡ false →
       (deskAnswer W C w slots s ≡ Refused s) × (deskWord W C w slots s ≡ w) × (deskSlots W C w slots s ≡ slots)
-  refused-keeps e = as-stepped (leaves w next.Refused) (rw e)
+  refused-keeps e = rw e (refl, refl, refl)
+
+  -- the promise of a step in range, from the one of `step_on`
+  pub at-desk : (after : List ℕ) (r : Stepped) (answer : Answer) → inRange W C (length slots) w s ≡ true → StepOn W C w slots s r after → answer ≡ answerOf (r .next)
+      → AtDesk W C w slots s answer (r .word) after
+  at-desk after r answer e h d =
+      let o = steppedOn W C w slots s in
+      let k : r ≡ o = h .stepped ∙ sixteen-in W C (length slots) w (loaded slots (loadedSlot s)) s (in-range W C (length slots) w s e) in
+      let a : answer ≡ answerOf (o .next) = d ∙ ap (λ (z : Stepped). answerOf (z .next)) k in
+      record {
+        answered = rw e a;
+        numbered = rw e (ap numberOf a ∙ number-told (o .next));
+        staged = rw e (ap stageOf a ∙ stage-told (o .next));
+        resulted = rw e (ap resultOf a ∙ result-told (o .next));
+        altered = rw e (ap (λ (z : Stepped). z .word) k);
+        kept = rw e (h .kept);
+      }
+
+  -- and that of a refusal
+  pub at-desk-refused : (answer : Answer) → inRange W C (length slots) w s ≡ false → answer ≡ Refused s → AtDesk W C w slots s answer w slots
+  at-desk-refused answer e d = record {
+    answered = rw e d;
+    numbered = rw e (ap numberOf d);
+    staged = rw e (ap stageOf d);
+    resulted = rw e (ap resultOf d);
+    altered = rw e refl;
+    kept = rw e refl;
+  }
 
 -- an idle stage is a step that alters nothing
 pub idle-keeps : (W C : ℕ) (w : Word) (slots : List ℕ) → inRange W C (length slots) w Idle ≡ true →
     (deskAnswer W C w slots Idle ≡ Going Idle) × (deskWord W C w slots Idle ≡ w) × (deskSlots W C w slots Idle ≡ slots)
-idle-keeps W C w slots e = as-stepped W C w slots Idle (leaves w (next.Going Idle)) (rw e)
+idle-keeps W C w slots e = row-done W C w slots Idle e
 
 -- none of the list is so of a stage in range
 record Fine (W C : ℕ) (s : Stage) : Type 0 where

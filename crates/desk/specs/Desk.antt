@@ -15,14 +15,14 @@ use Rattle.queue.specs.declared.Next.the-variants as next
 use Rattle.desk.specs.declared.Answer.{Answer}
 use Rattle.desk.specs.declared.Answer.the-variants.{Going, Done, Node, Nil, Lost, Full, Refused}
 
-abbrev pub answerOf : Stage → Next → Answer
-answerOf s (next.Going z) = Going z
-answerOf s next.Done = Done
-answerOf s (next.Node x) = Node x
-answerOf s next.Nil = Nil
-answerOf s next.Lost = Lost
-answerOf s next.Full = Full
-answerOf s next.Refused = Refused s
+-- what follows the step of the table, as the desk's answer
+abbrev pub answerOf : Next → Answer
+answerOf (next.Going z) = Going z
+answerOf next.Done = Done
+answerOf (next.Node x) = Node x
+answerOf next.Nil = Nil
+answerOf next.Lost = Lost
+answerOf next.Full = Full
 
 -- document 01's number for an answer
 abbrev pub numberOf : Answer → ℕ
@@ -54,14 +54,15 @@ resultOf Lost = 3 ∷ 0 ∷ []
 resultOf Full = 2 ∷ []
 resultOf (Refused s) = []
 
+-- the table's step where it is in range; else a refusal, which alters nothing and gives the stage back as lent
 abbrev pub deskAnswer : ℕ → ℕ → Word → List ℕ → Stage → Answer
-deskAnswer W C w slots s = answerOf s (steppedOn W C w slots s .next)
+deskAnswer W C w slots s = cond (inRange W C (length slots) w s) (answerOf (steppedOn W C w slots s .next)) (Refused s)
 
 abbrev pub deskWord : ℕ → ℕ → Word → List ℕ → Stage → Word
-deskWord W C w slots s = steppedOn W C w slots s .word
+deskWord W C w slots s = cond (inRange W C (length slots) w s) (steppedOn W C w slots s .word) w
 
 abbrev pub deskSlots : ℕ → ℕ → Word → List ℕ → Stage → List ℕ
-deskSlots W C w slots s = stored slots (steppedOn W C w slots s .store)
+deskSlots W C w slots s = cond (inRange W C (length slots) w s) (stored slots (steppedOn W C w slots s .store)) slots
 
 -- what the desk promises of its answer, with this paper's number and values, of the word and of the slots after it; 10 is given exactly where the
 -- step is out of range, and the stage is then given back as lent
@@ -69,6 +70,6 @@ pub record AtDesk (W C : ℕ) (w : Word) (slots : List ℕ) (s : Stage) (answer 
   pub answered : answer ≡ deskAnswer W C w slots s
   pub numbered : numberOf answer ≡ cond (inRange W C (length slots) w s) 0 10
   pub staged : stageOf answer ≡ cond (inRange W C (length slots) w s) (stageAfter (steppedOn W C w slots s .next)) s
-  pub resulted : resultOf answer ≡ nextResult (steppedOn W C w slots s .next)
+  pub resulted : resultOf answer ≡ cond (inRange W C (length slots) w s) (nextResult (steppedOn W C w slots s .next)) []
   pub altered : word ≡ deskWord W C w slots s
   pub kept : after ≡ deskSlots W C w slots s

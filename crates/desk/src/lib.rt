@@ -24,8 +24,8 @@ pub struct Desk {
     pub answer: Answer,
 }
 
-fn answer_of(stage: Stage, next: Next) -> Answer
-    ensures { λ r. ⌜ r ≡ answerOf stage next ⌝ }
+fn answer_of(next: Next) -> Answer
+    ensures { λ r. ⌜ r ≡ answerOf next ⌝ }
 {
     match next {
         Next::Going(following) => Answer::Going(following),
@@ -34,19 +34,25 @@ fn answer_of(stage: Stage, next: Next) -> Answer
         Next::Nil => Answer::Nil,
         Next::Lost => Answer::Lost,
         Next::Full => Answer::Full,
-        Next::Refused => Answer::Refused(stage),
     }
 }
 
-// The table's step for one stage, or a refusal, with the word given back instead of altered.
+// The table's step for one stage where it is in range, or a refusal, with the word given back instead of altered.
 pub fn step_by_value(width: u8, size: u8, word: Word, slots: &mut [u16], stage: Stage) -> Desk
     ensures { λ r. ⌜ AtDesk width size word (now (slots .entry)) stage (r .answer) (r .word) (now (slots .exit)) ⌝ }
 {
-    let stepped = step_on(width, size, word, slots, stage);
-    let next = stepped.next;
-    let answer = answer_of(stage, next);
-    let word = stepped.word;
-    Desk { word, answer }
+    if range::in_range(width, size, slots.len(), word, stage) {
+        let stepped = step_on(width, size, word, slots, stage);
+        let next = stepped.next;
+        let answer = answer_of(next);
+        let word = stepped.word;
+        Desk { word, answer }
+    } else {
+        Desk {
+            word,
+            answer: Answer::Refused(stage),
+        }
+    }
 }
 
 // The same with the word lent: it is altered where it stands.

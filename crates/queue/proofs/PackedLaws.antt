@@ -1,24 +1,18 @@
--- Top and tag in one word: packing and unpacking, and that every step on such a word, unpacked, is the table's.
+-- Top and tag in one word: packing and unpacking, and that a step whose answer, unpacked, is the table's row keeps the promise.
 use mathlib.Core.Path.{_≡_, refl, sym, ap, _∙_, subst}
-use mathlib.Core.Bool.{Bool, true, false, cond, _&&_}
+use mathlib.Core.Bool.{Bool, true, false, _&&_}
 use mathlib.Core.List.{List}
-use Prim.Native.Nat.{ℕ, _+_, _-_, _*_, _≤_, _<_}
-use native.Mathlib.Nat.{div-add-mod', mod-lt}
+use Prim.Native.Nat.{ℕ, _+_, _*_, _%_, _<_}
+use native.Mathlib.Nat.{div-add-mod', mod-lt, mod-eq-of-lt}
 use native.Mathlib.Omega.{arith}
-use lib.Dec.{leb, ltb, eqb}
-use lib.ListN.{length}
+use lib.Dec.{eqb}
 use borrow.Author.Tests.{eqb-true, eqb-false, eq-eqb}
-use Rattle.range.specs.Range.{inRange}
-use Rattle.range.specs.inner.Facts.{StageIn}
-use Rattle.range.proofs.RangeLaws.{in-range}
 use Rattle.word.specs.Tag.{nextTag}
 use Rattle.word.specs.declared.Word.{Word}
 use Rattle.word.specs.declared.Stage.{Stage}
-use Rattle.word.specs.declared.Stage.the-variants.{Idle, P1, P2, P3, T1, T2, T3, T4, B1, B2, B3, B4, B5, B6, B7}
-use Rattle.queue.specs.Step.{ageTo, leaves, resets, sameAge, rowOf, loaded, loadedSlot, stored, steppedOn, StepOn}
-use Rattle.queue.specs.Packed.{packed, topOf, tagOf, packedWord, unpacked, unpackedStep, packedAge, packedLeaves, packedResets, sameWord, packedRow, packedOn, StepPacked}
+use Rattle.queue.specs.Step.{bottomTo, ageTo, leaves, resets, stored, inSixteen, steppedOn, StepOn}
+use Rattle.queue.specs.Packed.{packed, topOf, tagOf, nextAge, packedWord, unpacked, unpackedStep, StepPacked}
 use Rattle.queue.specs.declared.Next.{Next}
-use Rattle.queue.specs.declared.Next.the-variants.{Going, Node, Nil, Lost, Full}
 use Rattle.queue.specs.declared.Stepped.{Stepped}
 use Rattle.queue.specs.declared.PackedWord.{PackedWord}
 use Rattle.queue.specs.declared.PackedStep.{PackedStep}
@@ -57,81 +51,77 @@ packed-same a t g h = whole (eqb a (packed t g)) refl
 pub unpacked-packed : (w : Word) → w .top < 65536 → unpacked (packedWord w) ≡ w
 unpacked-packed w h = λ i. record { bottom = w .bottom; top = top-packed (w .top) (w .tag) h i; tag = tag-packed (w .top) (w .tag) h i }
 
-module _ (w : PackedWord) where
-  aged : (a t g : ℕ) → topOf a ≡ t → tagOf a ≡ g → unpacked (packedAge w a) ≡ ageTo (unpacked w) t g
-  aged a t g h k = λ i. record { bottom = w .bottom; top = h i; tag = k i }
+-- the numbers of a word of the code are of 16 bits
+pub sixteen-again : (n : ℕ) → n % 65536 % 65536 ≡ n % 65536
+sixteen-again n = mod-eq-of-lt (mod-lt n {m = 65536} (omega arith))
 
-  -- T4's word, and that of a reset
-  taken : (t g : ℕ) (n : Next) → t + 1 < 65536 → unpackedStep (packedLeaves (packedAge w (packed (t + 1) g)) n) ≡ leaves (ageTo (unpacked w) (t + 1) g) n
-  taken t g n h = ap (λ (x : Word). leaves x n) (aged (packed (t + 1) g) (t + 1) g (top-packed (t + 1) g h) (tag-packed (t + 1) g h))
-
-  reset : (W t g : ℕ) (n : Next) → t < 65536 → unpackedStep (packedResets W w (packed t g) n) ≡ resets W (unpacked w) g n
-  reset W t g n h =
-      let next = nextTag W (tagOf (packed t g)) in
-      λ i. record {
-        word = aged (packed 0 next) 0 (nextTag W g) (top-packed 0 next (omega arith)) (tag-packed 0 next (omega arith) ∙ ap (nextTag W) (tag-packed t g h)) i;
-        store = resets W (unpacked w) g n .store;
-        reset = true;
-        next = n;
-      }
-
-either : (t : Bool) (x y : PackedStep) → unpackedStep (cond t x y) ≡ cond t (unpackedStep x) (unpackedStep y)
-either true x y = refl
-either false x y = refl
-
--- a row that compares the age
-compared : (w : PackedWord) (t g : ℕ) (x y : PackedStep) (z : Stepped) → t < 65536 → unpackedStep x ≡ z
-    → unpackedStep (cond (sameWord w t g) x y) ≡ cond (sameAge (unpacked w) t g) z (unpackedStep y)
-compared w t g x y z h e =
-    either (sameWord w t g) x y ∙ ap (λ (b : Bool). cond b (unpackedStep x) (unpackedStep y)) (packed-same (w .age .word) t g h)
-    ∙ ap (λ (o : Stepped). cond (sameAge (unpacked w) t g) o (unpackedStep y)) e
-
--- every row, unpacked, is the table's
-pub row-unpacks : (W C : ℕ) (w : PackedWord) (v : ℕ) (s : Stage) → C ≤ 64 → StageIn W C s → unpackedStep (packedRow W C w v s) ≡ rowOf W C (unpacked w) v s
-row-unpacks W C w v Idle h k = refl
-row-unpacks W C w v (P1 node) h k = either (eqb (w .bottom) C) (packedLeaves w Full) (packedLeaves w (Going (P2 node (w .bottom))))
-row-unpacks W C w v (P2 node b) h k = refl
-row-unpacks W C w v (P3 b) h k = refl
-row-unpacks W C w v T1 h k = refl
-row-unpacks W C w v (T2 t g) h k = either (leb (w .bottom) t) (packedLeaves w Nil) (packedLeaves w (Going (T3 t g (w .bottom))))
-row-unpacks W C w v (T3 t g b) h k = refl
-row-unpacks W C w v (T4 t g b x) h k =
-    compared w t g (packedLeaves (packedAge w (packed (t + 1) g)) (Node x)) (packedLeaves w Lost) (leaves (ageTo (unpacked w) (t + 1) g) (Node x)) (omega arith)
-    (taken w t g (Node x) (omega arith))
-row-unpacks W C w v B1 h k = either (eqb (w .bottom) 0) (packedLeaves w Nil) (packedLeaves w (Going (B2 (w .bottom))))
-row-unpacks W C w v (B2 b) h k = refl
-row-unpacks W C w v (B3 b) h k = refl
-row-unpacks W C w v (B4 b x) h k =
-    either (ltb (topOf (w .age .word)) (b - 1)) (packedLeaves w (Node x)) (packedLeaves w (Going (B5 b x (topOf (w .age .word)) (tagOf (w .age .word)))))
-row-unpacks W C w v (B5 b x t g) h k = refl
-row-unpacks W C w v (B6 b x t g) h k =
-    compared w t g (packedResets W w (packed t g) (Node x)) (packedLeaves w (Going (B7 b x t g))) (resets W (unpacked w) g (Node x)) (omega arith)
-    (reset w W t g (Node x) (omega arith))
-row-unpacks W C w v (B7 b x t g) h k = reset w W t g Nil (omega arith)
-
--- and so is every step, refused or not
-pub step-unpacks : (W C : ℕ) (w : PackedWord) (slots : List ℕ) (s : Stage) → unpackedStep (packedOn W C w slots s) ≡ steppedOn W C (unpacked w) slots s
-step-unpacks W C w slots s = by-test (inRange W C (length slots) (unpacked w) s) refl
-  where
-    by-test : (t : Bool) → inRange W C (length slots) (unpacked w) s ≡ t → unpackedStep (packedOn W C w slots s) ≡ steppedOn W C (unpacked w) slots s
-    by-test true e =
-        let h = in-range W C (length slots) (unpacked w) s e in
-        rw e (row-unpacks W C w (loaded slots (loadedSlot s)) s (h .sizes .size-high) (h .stage))
-    by-test false e = rw e refl
-
--- the promise from its two equations
-pub packed-is : (W C : ℕ) (w : PackedWord) (slots : List ℕ) (s : Stage) (answer : PackedStep) (after : List ℕ) → answer ≡ packedOn W C w slots s
-    → after ≡ stored slots (packedOn W C w slots s .store) → StepPacked W C w slots s answer after
-packed-is W C w slots s answer after e k =
-    let d = step-unpacks W C w slots s in
-    record {
-      stepped = e;
-      unpacks = step-is W C (unpacked w) slots s (unpackedStep answer) after (ap unpackedStep e ∙ d) (k ∙ ap (λ (o : Stepped). stored slots (o .store)) d);
+sixteen-word : (w : PackedWord) → w .bottom < 65536 → w .age .word < 4294967296 → unpacked w
+    ≡ record { bottom = w .bottom % 65536; top = topOf (w .age .word) % 65536; tag = tagOf (w .age .word) % 65536 }
+sixteen-word w h k =
+    let a = w .age .word in λ i. record {
+      bottom = sym (mod-eq-of-lt h) i;
+      top = sym (sixteen-again a) i;
+      tag = sym (mod-eq-of-lt {n = tagOf a} {m = 65536} (omega (arith, parts a .0))) i;
     }
 
--- the test of the unpacked word
-pub tested : (W C n : ℕ) (s : Stage) {w w′ : Word} {r t : Bool} → w′ ≡ w → r ≡ inRange W C n w′ s → r ≡ t → inRange W C n w s ≡ t
-tested W C n s e d k = sym (ap (λ (x : Word). inRange W C n x s) e) ∙ sym d ∙ k
+-- a step that leaves such a word
+pub left-as : (w : PackedWord) (o : Stepped) → w .bottom < 65536 → w .age .word < 4294967296 → o .word ≡ unpacked w
+    → record { word = unpacked w; store = o .store; reset = o .reset; next = o .next } ≡ inSixteen o
+left-as w o h k e =
+    let d = sixteen-word w h k ∙ ap (λ (x : Word). record { bottom = x .bottom % 65536; top = x .top % 65536; tag = x .tag % 65536 }) (sym e) in
+    λ i. record { word = d i; store = o .store; reset = o .reset; next = o .next }
+
+-- a bottom, or a top, that goes round is the one of 16 bits
+pub bottom-as : (w : PackedWord) (x y : ℕ) (n : Next) → x ≡ y % 65536 → inSixteen (leaves (bottomTo (unpacked w) x) n) ≡ inSixteen (leaves (bottomTo (unpacked w) y) n)
+bottom-as w x y n e = λ i. record {
+  word = record { bottom = (ap (λ (k : ℕ). k % 65536) e ∙ sixteen-again y) i; top = topOf (w .age .word) % 65536; tag = tagOf (w .age .word) % 65536 };
+  store = leaves (unpacked w) n .store;
+  reset = false;
+  next = n;
+}
+
+pub top-as : (w : PackedWord) (a x y g : ℕ) (n : Next) → x ≡ y % 65536 → a ≡ packed x g
+    → inSixteen (leaves (unpacked (record { bottom = w .bottom; age = record { word = a } })) n) ≡ inSixteen (leaves (ageTo (unpacked w) y g) n)
+top-as w a x y g n e d =
+    let l : x < 65536 = omega (arith, mod-lt y {m = 65536} (omega arith)) in
+    λ i. record {
+      word = record {
+        bottom = w .bottom % 65536;
+        top = (ap (λ (k : ℕ). k % 65536) (ap topOf d ∙ top-packed x g l ∙ e) ∙ sixteen-again y) i;
+        tag = ap (λ (k : ℕ). k % 65536) (ap tagOf d ∙ tag-packed x g l) i;
+      };
+      store = leaves (unpacked w) n .store;
+      reset = false;
+      next = n;
+    }
+
+-- a reset: the age after (t, g), stored whole
+pub reset-as : (W : ℕ) (w : PackedWord) (t g : ℕ) (n : Next) (a : ℕ) → w .bottom < 65536 → t < 65536 → a ≡ nextAge W (packed t g)
+    → record {
+      word = unpacked (record { bottom = w .bottom; age = record { word = a } });
+      store = resets W (unpacked w) g n .store;
+      reset = true;
+      next = n;
+    } ≡ inSixteen (resets W (unpacked w) g n)
+reset-as W w t g n a h k e =
+    let tag = nextTag W (tagOf (packed t g)) % 65536 in λ i. record {
+      word = record {
+        bottom = sym (mod-eq-of-lt h) i;
+        top = (ap topOf e ∙ top-packed 0 tag (omega arith)) i;
+        tag = (ap tagOf e ∙ tag-packed 0 tag (omega arith) ∙ ap (λ (x : ℕ). nextTag W x % 65536) (tag-packed t g k)) i;
+      };
+      store = resets W (unpacked w) g n .store;
+      reset = true;
+      next = n;
+    }
+
+-- the promise from its two equations
+pub packed-is : (W C : ℕ) (w : PackedWord) (slots : List ℕ) (s : Stage) (answer : PackedStep) (after : List ℕ) → unpackedStep answer ≡ inSixteen (steppedOn W C (unpacked w) slots s)
+    → after ≡ stored slots (steppedOn W C (unpacked w) slots s .store) → StepPacked W C w slots s answer after
+packed-is W C w slots s answer after e k = record {
+  aged = sym (packed-again (answer .word .age .word)) ∙ ap (λ (o : Stepped). packed (o .word .top) (o .word .tag)) e;
+  unpacks = step-is W C (unpacked w) slots s (unpackedStep answer) after e k;
+}
 
 -- a word of three numbers, packed, stepped and unpacked
 pub on-three : (W C : ℕ) (w : Word) (slots : List ℕ) (s : Stage) (m : PackedWord) (o : PackedStep) (r : Stepped) (after : List ℕ) → w .top < 65536 → m ≡ packedWord w

@@ -6,7 +6,7 @@ use Rattle.base.proofs.Settled.{one-value}
 use Rattle.word.specs.declared.Word.{Word}
 use Rattle.word.specs.declared.Stage.{Stage}
 use Rattle.queue.specs.Step.{StepOn}
-use Rattle.queue.specs.Packed.{packed, topOf, tagOf, packedWord, unpacked, StepPacked}
+use Rattle.queue.specs.Packed.{packed, topOf, tagOf, nextAge, packedWord, unpacked, StepPacked}
 use Rattle.queue.specs.declared.Stepped.{Stepped}
 use Rattle.queue.specs.declared.PackedAge.{PackedAge}
 use Rattle.queue.specs.declared.PackedWord.{PackedWord}
@@ -18,9 +18,18 @@ step-on W C w slots s r r′ l l′ p q = (one-value (p .stepped) (q .stepped), 
 
 pub step-packed : (W C : ℕ) (w : PackedWord) (slots : List ℕ) (s : Stage) (r r′ : PackedStep) (l l′ : List ℕ) →
     StepPacked W C w slots s r l → StepPacked W C w slots s r′ l′ → (r ≡ r′) × (l ≡ l′)
-step-packed W C w slots s r r′ l l′ p q = (one-value (p .stepped) (q .stepped), one-value (p .unpacks .kept) (q .unpacks .kept))
+step-packed W C w slots s r r′ l l′ p q =
+    let e = one-value (p .unpacks .stepped) (q .unpacks .stepped) in (
+      λ i. record {
+        word = record { bottom = e i .word .bottom; age = record { word = one-value (p .aged) (q .aged) i } };
+        store = e i .store;
+        reset = e i .reset;
+        next = e i .next;
+      },
+      one-value (p .unpacks .kept) (q .unpacks .kept),
+    )
 
--- of PackedAge::of, top and tag
+-- of PackedAge::of, top, tag and next_age
 pub age-of : (t g : ℕ) (r r′ : PackedAge) → r .word ≡ packed t g → r′ .word ≡ packed t g → r ≡ r′
 age-of t g r r′ p q = λ i. record { word = one-value p q i }
 
@@ -29,6 +38,9 @@ top a r r′ = one-value
 
 pub tag : (a r r′ : ℕ) → r ≡ tagOf a → r′ ≡ tagOf a → r ≡ r′
 tag a r r′ = one-value
+
+pub next-age : (W a : ℕ) (r r′ : PackedAge) → r .word ≡ nextAge W a → r′ .word ≡ nextAge W a → r ≡ r′
+next-age W a r r′ p q = λ i. record { word = one-value p q i }
 
 -- of PackedWord::of and unpacked
 pub word-of : (w : Word) (r r′ : PackedWord) → r ≡ packedWord w → r′ ≡ packedWord w → r ≡ r′

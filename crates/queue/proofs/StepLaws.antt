@@ -3,21 +3,20 @@ use mathlib.Core.Path.{_≡_, refl, ap, subst}
 use mathlib.Core.Bool.{false}
 use mathlib.Core.List.{List}
 use Prim.Native.Nat.{ℕ, zero, suc, _-_, _≤_}
+use native.Mathlib.Nat.{mod-eq-of-lt}
 use native.Mathlib.Omega.{arith}
+use lib.Pow.{pow-mono}
 use lib.Dec.{leb, ltb, eqb}
 use borrow.Author.Tests.{leb-false, eqb-false}
 use Rattle.word.proofs.TagLaws.{next-below}
-use Rattle.range.specs.inner.Facts.{WordIn, StageIn}
+use Rattle.range.specs.inner.Facts.{WordIn, StageIn, InRange}
 use Rattle.base.proofs.Cases.{either-way}
 use Rattle.word.specs.Stages.{stepsLeft}
-use Rattle.queue.specs.Step.{leaves, resets, sameAge, rowOf, loadedSlot, stored, stageAfter, resultOf, steppedOn, StepOn, LoadsBelow, StoresBelow}
+use Rattle.queue.specs.Step.{leaves, resets, sameAge, rowOf, loadedSlot, stored, stageAfter, resultOf, inSixteen, steppedOn, StepOn, LoadsBelow, StoresBelow}
 use Rattle.word.specs.declared.Word.{Word}
 use Rattle.word.specs.declared.Stage.{Stage}
 use Rattle.word.specs.declared.Stage.the-variants.{Idle, P1, P2, P3, T1, T2, T3, T4, B1, B2, B3, B4, B5, B6, B7}
-use Rattle.queue.specs.declared.Next.{Next}
-use Rattle.queue.specs.declared.Next.the-variants.{Going, Done, Node, Nil, Lost, Full, Refused}
-use Rattle.queue.specs.declared.Load.the-variants as load
-use Rattle.queue.specs.declared.Store.the-variants as store
+use Rattle.queue.specs.declared.Next.the-variants.{Going, Nil, Lost}
 use Rattle.queue.specs.declared.Stepped.{Stepped}
 
 abbrev Lower : ℕ → Stepped → Type 0
@@ -114,35 +113,22 @@ stays-in W C w v (B6 b x t g) h k =
 stays-in W C w v (B7 b x t g) h k =
     record { word = record { bottom-in = h .bottom-in; top-in = omega arith; tag-in = next-below W g }; stage = tt }
 
--- a row always answers: a step is refused only where it is out of range
-abbrev pub Answered : Next → Type 0
-Answered (Going s) = Unit {0}
-Answered Done = Unit {0}
-Answered (Node x) = Unit {0}
-Answered Nil = Unit {0}
-Answered Lost = Unit {0}
-Answered Full = Unit {0}
-Answered Refused = ⊥
-
-abbrev AnsweredBy : Stepped → Type 0
-AnsweredBy r = Answered (r .next)
-
-pub answered : (W C : ℕ) (w : Word) (v : ℕ) (s : Stage) → Answered (rowOf W C w v s .next)
-answered W C w v Idle = tt
-answered W C w v (P1 node) = either-way AnsweredBy (eqb (w .bottom) C) (λ e. tt) (λ e. tt)
-answered W C w v (P2 node b) = tt
-answered W C w v (P3 b) = tt
-answered W C w v T1 = tt
-answered W C w v (T2 t g) = either-way AnsweredBy (leb (w .bottom) t) (λ e. tt) (λ e. tt)
-answered W C w v (T3 t g b) = tt
-answered W C w v (T4 t g b x) = either-way AnsweredBy (sameAge w t g) (λ e. tt) (λ e. tt)
-answered W C w v B1 = either-way AnsweredBy (eqb (w .bottom) 0) (λ e. tt) (λ e. tt)
-answered W C w v (B2 b) = tt
-answered W C w v (B3 b) = tt
-answered W C w v (B4 b x) = either-way AnsweredBy (ltb (w .top) (b - 1)) (λ e. tt) (λ e. tt)
-answered W C w v (B5 b x t g) = tt
-answered W C w v (B6 b x t g) = either-way AnsweredBy (sameAge w t g) (λ e. tt) (λ e. tt)
-answered W C w v (B7 b x t g) = tt
+-- and its numbers are of 16 bits: the code, which answers for every word and stage, answers with the row itself
+pub sixteen-in : (W C n : ℕ) (w : Word) (v : ℕ) (s : Stage) → InRange W C n w s → inSixteen (rowOf W C w v s) ≡ rowOf W C w v s
+sixteen-in W C n w v s h =
+    let o = rowOf W C w v s in
+    let k = stays-in W C w v s (h .word) (h .stage) .word in
+    let m = h .sizes in
+    λ i. record {
+      word = record {
+        bottom = mod-eq-of-lt {n = o .word .bottom} {m = 65536} (omega (arith, k .bottom-in, m .size-high)) i;
+        top = mod-eq-of-lt {n = o .word .top} {m = 65536} (omega (arith, k .top-in, m .size-high)) i;
+        tag = mod-eq-of-lt {n = o .word .tag} {m = 65536} (omega (arith, k .tag-in, pow-mono {i = W} {j = 16} (m .width-high))) i;
+      };
+      store = o .store;
+      reset = o .reset;
+      next = o .next;
+    }
 
 -- no slot at or above C is touched by a stage in range: neither the one that it loads nor the one that it stores
 pub loads-below : (W C : ℕ) (s : Stage) → StageIn W C s → LoadsBelow C (loadedSlot s)
@@ -246,7 +232,7 @@ B7-stores W C w w′ v v′ b x words slots k b′ x′ t g e =
     ap (λ (j : ℕ). resets W w′ j Nil) (h .1)
 
 -- the promise from its two equations: the values of the answer are those of what it equals
-pub step-is : (W C : ℕ) (w : Word) (slots : List ℕ) (s : Stage) (answer : Stepped) (after : List ℕ) → answer ≡ steppedOn W C w slots s
+pub step-is : (W C : ℕ) (w : Word) (slots : List ℕ) (s : Stage) (answer : Stepped) (after : List ℕ) → answer ≡ inSixteen (steppedOn W C w slots s)
     → after ≡ stored slots (steppedOn W C w slots s .store) → StepOn W C w slots s answer after
 step-is W C w slots s answer after e k =
     record { stepped = e; staged = ap (λ (o : Stepped). stageAfter (o .next)) e; resulted = ap (λ (o : Stepped). resultOf (o .next)) e; kept = k }

@@ -1,19 +1,18 @@
 -- The steps of the queue, row by row as in document 01's table. W is the tag's width, C the number of slots, w the control word,
 -- v the value of the slot that the stage loads.
-use Prim.Native.Nat.{ℕ, _+_, _-_, _<_}
+use Prim.Native.Nat.{ℕ, _+_, _-_, _%_, _<_}
 use mathlib.Core.Path.{_≡_}
 use mathlib.Core.Bool.{Bool, true, false, cond, _&&_}
 use mathlib.Core.List.{List, [], _∷_}
-use lib.ListN.{length, getD, set}
+use lib.ListN.{getD, set}
 use lib.Dec.{ltb, leb, eqb}
 use Rattle.word.specs.Tag.{nextTag}
 use Rattle.word.specs.Stages.{rowNumber, firstLoaded}
-use Rattle.range.specs.Range.{inRange}
 use Rattle.word.specs.declared.Word.{Word}
 use Rattle.word.specs.declared.Stage.{Stage}
 use Rattle.word.specs.declared.Stage.the-variants.{Idle, P1, P2, P3, T1, T2, T3, T4, B1, B2, B3, B4, B5, B6, B7}
 use Rattle.queue.specs.declared.Next.{Next}
-use Rattle.queue.specs.declared.Next.the-variants.{Going, Done, Node, Nil, Lost, Full, Refused}
+use Rattle.queue.specs.declared.Next.the-variants.{Going, Done, Node, Nil, Lost, Full}
 use Rattle.queue.specs.declared.Load.{Load}
 use Rattle.queue.specs.declared.Load.the-variants as load
 use Rattle.queue.specs.declared.Store.{Store}
@@ -82,7 +81,6 @@ stageAfter (Node x) = Idle
 stageAfter Nil = Idle
 stageAfter Lost = Idle
 stageAfter Full = Idle
-stageAfter Refused = Idle
 
 -- of a call that returned, its result and its node as in the log: NIL at T4 is 3 (C-15); done and FULL leave the node to the push
 abbrev pub resultOf : Next → List ℕ
@@ -92,15 +90,24 @@ resultOf (Node x) = 1 ∷ x ∷ []
 resultOf Nil = 0 ∷ 0 ∷ []
 resultOf Lost = 3 ∷ 0 ∷ []
 resultOf Full = 2 ∷ []
-resultOf Refused = []
 
--- the step of a stage on a queue's slots; out of range it is refused, and alters nothing
+-- the step of a stage on a queue's slots
 abbrev pub steppedOn : ℕ → ℕ → Word → List ℕ → Stage → Stepped
-steppedOn W C w slots s = cond (inRange W C (length slots) w s) (rowOf W C w (loaded slots (loadedSlot s)) s) (leaves w Refused)
+steppedOn W C w slots s = rowOf W C w (loaded slots (loadedSlot s)) s
+
+-- The code answers for every word and stage, with the numbers of the word as 16 bits: a bottom, top or tag above them goes round. A step in range leaves
+-- no such number.
+abbrev pub inSixteen : Stepped → Stepped
+inSixteen o = record {
+  word = record { bottom = o .word .bottom % 65536; top = o .word .top % 65536; tag = o .word .tag % 65536 };
+  store = o .store;
+  reset = o .reset;
+  next = o .next;
+}
 
 -- what the step promises: its answer, with the values that it stands for, and every slot
 pub record StepOn (W C : ℕ) (w : Word) (slots : List ℕ) (s : Stage) (answer : Stepped) (after : List ℕ) : Type 0 where
-  pub stepped : answer ≡ steppedOn W C w slots s
+  pub stepped : answer ≡ inSixteen (steppedOn W C w slots s)
   pub staged : stageAfter (answer .next) ≡ stageAfter (steppedOn W C w slots s .next)
   pub resulted : resultOf (answer .next) ≡ resultOf (steppedOn W C w slots s .next)
   pub kept : after ≡ stored slots (steppedOn W C w slots s .store)

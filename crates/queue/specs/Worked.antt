@@ -1,12 +1,12 @@
 -- The table at its edges, computed: the places where document 01 says that errors tempt.
 use mathlib.Core.Path.{_≡_, refl}
 use Prim.Native.Nat.{ℕ}
-use Rattle.queue.specs.Step.{leaves, resets, rowOf, loadedSlot}
-use Rattle.queue.specs.Packed.{packed, topOf, tagOf, nextAge, packedLeaves, packedRow}
+use Rattle.queue.specs.Step.{leaves, resets, rowOf, inSixteen, loadedSlot}
+use Rattle.queue.specs.Packed.{packed, topOf, tagOf, nextAge, unpacked}
 use Rattle.queue.specs.declared.Load.the-variants as Load
 use Rattle.queue.specs.declared.PackedWord.{PackedWord}
 use Rattle.word.specs.declared.Word.{Word}
-use Rattle.word.specs.declared.Stage.the-variants.{P1, P2, T2, T3, T4, B3, B4, B5, B6, B7}
+use Rattle.word.specs.declared.Stage.the-variants.{P1, P2, P3, T2, T3, T4, B3, B4, B5, B6, B7}
 use Rattle.queue.specs.declared.Next.the-variants.{Going, Node, Nil, Lost, Full}
 
 abbrev word : ℕ → ℕ → ℕ → Word
@@ -50,10 +50,16 @@ abbrev held : ℕ → ℕ → PackedWord
 held b a = record { bottom = b; age = record { word = a } }
 
 -- T4 compares the whole word and stores the whole word: a tag of 257 is not 1, though the lower halves agree
-whole : (packedRow 16 4 (held 1 65536) 0 (T4 0 1 1 7) ≡ packedLeaves (held 1 65537) (Node 7))
-    × (packedRow 16 4 (held 1 16842752) 0 (T4 0 1 1 7) ≡ packedLeaves (held 1 16842752) Lost)
+whole : (rowOf 16 4 (unpacked (held 1 65536)) 0 (T4 0 1 1 7) ≡ leaves (unpacked (held 1 65537)) (Node 7))
+    × (rowOf 16 4 (unpacked (held 1 16842752)) 0 (T4 0 1 1 7) ≡ leaves (unpacked (held 1 16842752)) Lost)
 whole = (refl, refl)
 
 -- B6 after tag 65,535; and B7 stores the age after the one that B4 loaded, here (1, 65,535), and not after the one that it finds, (1, 8)
-stored-whole : (packedRow 16 4 (held 0 4294901760) 0 (B6 1 7 0 65535) .word ≡ held 0 0) × (packedRow 16 4 (held 0 524289) 0 (B7 1 7 1 65535) .word ≡ held 0 0)
+stored-whole : (rowOf 16 4 (unpacked (held 0 4294901760)) 0 (B6 1 7 0 65535) .word ≡ unpacked (held 0 0))
+    × (rowOf 16 4 (unpacked (held 0 524289)) 0 (B7 1 7 1 65535) .word ≡ unpacked (held 0 0))
 stored-whole = (refl, refl)
+
+-- out of range a bottom, a top or a tag goes round; in range nothing does
+goes-round : (inSixteen (rowOf 8 4 (word 0 0 0) 0 (P3 65535)) .word ≡ word 0 0 0) × (inSixteen (rowOf 8 4 (word 0 65535 0) 0 (T4 65535 0 1 7)) .word ≡ word 0 0 0)
+    × (inSixteen (rowOf 17 4 (word 0 1 0) 0 (B7 1 7 0 65535)) .word ≡ word 0 0 0) × (inSixteen (rowOf 8 4 (word 3 0 0) 0 (P3 3)) .word ≡ word 4 0 0)
+goes-round = (refl, refl, refl, refl)

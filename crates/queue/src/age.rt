@@ -1,6 +1,5 @@
 // The age in one word of 32 bits: the tag in the upper sixteen, the top in the lower.
 ghost use mathlib.Core.Path.{_≡_};
-ghost use Prim.Native.Nat.{_≤_};
 ghost use Rattle.queue.specs.Packed.{packed, topOf, tagOf, nextAge, packedWord, unpacked as unpackedOf, unpackedStep};
 use crate::PackedAge;
 use crate::PackedStep;
@@ -33,8 +32,7 @@ impl PackedAge {
     }
 
     // The age after a reset: top 0, and the next tag.
-    pub(crate) fn next_age(self, width: u8) -> PackedAge
-        requires { ⌜ width ≤ 16 ⌝ }
+    pub fn next_age(self, width: u8) -> PackedAge
         ensures { λ r. ⌜ r .word ≡ nextAge width (self .word) ⌝ }
     {
         PackedAge::of(0, next_tag(width, self.tag()))

@@ -12,8 +12,7 @@ use word::Stage;
 use word::Word;
 use word::stages::below;
 
-// What follows a step: the next stage, or the result of the call. Lost: NIL at T4, where the race was lost. Refused: the step was out of
-// range, and nothing was done.
+// What follows a step: the next stage, or the result of the call. Lost: NIL at T4, where the race was lost.
 pub enum Next {
     Going(Stage),
     Done,
@@ -21,7 +20,6 @@ pub enum Next {
     Nil,
     Lost,
     Full,
-    Refused,
 }
 
 // The slot that a stage loads, if it loads one.
@@ -100,7 +98,7 @@ fn store_in(slots: &mut [u16], made: Store)
     }
 }
 
-// The step of a stage on its queue's slots, where it is in range: the slot that the stage touches is loaded or stored, and no other.
+// The step of a stage on its queue's slots: the slot that the stage touches is loaded or stored, and no other.
 pub fn step_packed(
     width: u8,
     size: u8,
@@ -110,15 +108,11 @@ pub fn step_packed(
 ) -> PackedStep
     ensures { λ r. ⌜ StepPacked width size word (now (slots .entry)) stage r (now (slots .exit)) ⌝ }
 {
-    if range::in_range(width, size, slots.len(), word.unpacked(), stage) {
-        let loaded = load_from(slots, stage);
-        let stepped = rows::row(width, size, word, loaded, stage);
-        let made = stepped.store;
-        store_in(slots, made);
-        stepped
-    } else {
-        rows::leaves(word, Next::Refused)
-    }
+    let loaded = load_from(slots, stage);
+    let stepped = rows::row(width, size, word, loaded, stage);
+    let made = stepped.store;
+    store_in(slots, made);
+    stepped
 }
 
 // The same on a word of three numbers: packed, stepped and unpacked.

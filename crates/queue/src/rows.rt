@@ -1,9 +1,8 @@
 // The rows of document 01's table, each by its own name: the access, then the local work. In a row's promise 0 stands for a number
 // that the row does not use.
 ghost use mathlib.Core.Path.{_≡_};
-ghost use Prim.Native.Nat.{_≤_, _<_};
-ghost use Rattle.range.specs.inner.Facts.{InRange};
-ghost use Rattle.queue.specs.Packed.{packed, unpacked, packedLeaves, packedResets, sameWord, packedRow};
+ghost use Rattle.queue.specs.Packed.{unpacked, unpackedStep};
+ghost use Rattle.queue.specs.Step.{leaves as leavesOf, resets, sameAge, rowOf, inSixteen};
 use crate::Next;
 use crate::PackedAge;
 use crate::PackedStep;
@@ -13,8 +12,8 @@ use word::Stage;
 use word::stages::below;
 
 // A step that leaves this word, stores in no slot and is no reset.
-pub(crate) fn leaves(word: PackedWord, next: Next) -> PackedStep
-    ensures { λ r. ⌜ r ≡ packedLeaves word next ⌝ }
+fn leaves(word: PackedWord, next: Next) -> PackedStep
+    ensures { λ r. ⌜ unpackedStep r ≡ inSixteen (leavesOf (unpacked word) next) ⌝ }
 {
     PackedStep {
         word,
@@ -26,8 +25,7 @@ pub(crate) fn leaves(word: PackedWord, next: Next) -> PackedStep
 
 // Age becomes (0, next g), stored whole: (t, g) is the age that was loaded.
 fn reset(width: u8, word: PackedWord, t: u16, g: u16, next: Next) -> PackedStep
-    requires { ⌜ width ≤ 16 ⌝ }
-    ensures { λ r. ⌜ r ≡ packedResets width word (packed t g) next ⌝ }
+    ensures { λ r. ⌜ unpackedStep r ≡ inSixteen (resets width (unpacked word) g next) ⌝ }
 {
     let loaded = PackedAge::of(t, g);
     PackedStep {
@@ -43,7 +41,7 @@ fn reset(width: u8, word: PackedWord, t: u16, g: u16, next: Next) -> PackedStep
 
 // Age is still (t, g): the whole word is compared.
 fn same_age(word: PackedWord, t: u16, g: u16) -> bool
-    ensures { λ r. ⌜ r ≡ sameWord word t g ⌝ }
+    ensures { λ r. ⌜ r ≡ sameAge (unpacked word) t g ⌝ }
 {
     let age = word.age;
     let loaded = PackedAge::of(t, g);
@@ -52,7 +50,7 @@ fn same_age(word: PackedWord, t: u16, g: u16) -> bool
 
 // Load bottom as b; b = C: return FULL.
 fn p1(size: u8, word: PackedWord, node: u16) -> PackedStep
-    ensures { λ r. ⌜ r ≡ packedRow 0 size word 0 (Stage.P1 node) ⌝ }
+    ensures { λ r. ⌜ unpackedStep r ≡ inSixteen (rowOf 0 size (unpacked word) 0 (Stage.P1 node)) ⌝ }
 {
     let b = word.bottom;
     if b == size as u16 {
@@ -64,7 +62,7 @@ fn p1(size: u8, word: PackedWord, node: u16) -> PackedStep
 
 // Store the node in slot b.
 fn p2(word: PackedWord, node: u16, b: u16) -> PackedStep
-    ensures { λ r. ⌜ r ≡ packedRow 0 0 word 0 (Stage.P2 node b) ⌝ }
+    ensures { λ r. ⌜ unpackedStep r ≡ inSixteen (rowOf 0 0 (unpacked word) 0 (Stage.P2 node b)) ⌝ }
 {
     PackedStep {
         word,
@@ -76,16 +74,15 @@ fn p2(word: PackedWord, node: u16, b: u16) -> PackedStep
 
 // Store b+1 in bottom; return done.
 fn p3(word: PackedWord, b: u16) -> PackedStep
-    requires { ⌜ b < 64 ⌝ }
-    ensures { λ r. ⌜ r ≡ packedRow 0 0 word 0 (Stage.P3 b) ⌝ }
+    ensures { λ r. ⌜ unpackedStep r ≡ inSixteen (rowOf 0 0 (unpacked word) 0 (Stage.P3 b)) ⌝ }
 {
-    let bottom = b + 1;
+    let bottom = std::num::wrapping_add_u16(b, 1);
     leaves(PackedWord { bottom, ..word }, Next::Done)
 }
 
 // Load age as (t, g).
 fn t1(word: PackedWord) -> PackedStep
-    ensures { λ r. ⌜ r ≡ packedRow 0 0 word 0 Stage.T1 ⌝ }
+    ensures { λ r. ⌜ unpackedStep r ≡ inSixteen (rowOf 0 0 (unpacked word) 0 Stage.T1) ⌝ }
 {
     let age = word.age;
     let t = age.top();
@@ -95,7 +92,7 @@ fn t1(word: PackedWord) -> PackedStep
 
 // Load bottom as b; b ≤ t: return NIL.
 fn t2(word: PackedWord, t: u16, g: u16) -> PackedStep
-    ensures { λ r. ⌜ r ≡ packedRow 0 0 word 0 (Stage.T2 t g) ⌝ }
+    ensures { λ r. ⌜ unpackedStep r ≡ inSixteen (rowOf 0 0 (unpacked word) 0 (Stage.T2 t g)) ⌝ }
 {
     let b = word.bottom;
     if b <= t {
@@ -107,18 +104,17 @@ fn t2(word: PackedWord, t: u16, g: u16) -> PackedStep
 
 // Load slot t.
 fn t3(word: PackedWord, x: u16, t: u16, g: u16, b: u16) -> PackedStep
-    ensures { λ r. ⌜ r ≡ packedRow 0 0 word x (Stage.T3 t g b) ⌝ }
+    ensures { λ r. ⌜ unpackedStep r ≡ inSixteen (rowOf 0 0 (unpacked word) x (Stage.T3 t g b)) ⌝ }
 {
     leaves(word, Next::Going(Stage::T4 { t, g, b, x }))
 }
 
 // If age is still (t, g), age becomes (t+1, g); changed: return the node; else NIL, told apart from that of T2.
 fn t4(word: PackedWord, t: u16, g: u16, b: u16, x: u16) -> PackedStep
-    requires { ⌜ t < 64 ⌝ }
-    ensures { λ r. ⌜ r ≡ packedRow 0 0 word 0 (Stage.T4 t g b x) ⌝ }
+    ensures { λ r. ⌜ unpackedStep r ≡ inSixteen (rowOf 0 0 (unpacked word) 0 (Stage.T4 t g b x)) ⌝ }
 {
     if same_age(word, t, g) {
-        let top = t + 1;
+        let top = std::num::wrapping_add_u16(t, 1);
         let age = PackedAge::of(top, g);
         leaves(PackedWord { age, ..word }, Next::Node(x))
     } else {
@@ -128,7 +124,7 @@ fn t4(word: PackedWord, t: u16, g: u16, b: u16, x: u16) -> PackedStep
 
 // Load bottom as b; b = 0: return NIL.
 fn b1(word: PackedWord) -> PackedStep
-    ensures { λ r. ⌜ r ≡ packedRow 0 0 word 0 Stage.B1 ⌝ }
+    ensures { λ r. ⌜ unpackedStep r ≡ inSixteen (rowOf 0 0 (unpacked word) 0 Stage.B1) ⌝ }
 {
     let b = word.bottom;
     if b == 0 {
@@ -140,7 +136,7 @@ fn b1(word: PackedWord) -> PackedStep
 
 // Store b−1 in bottom.
 fn b2(word: PackedWord, b: u16) -> PackedStep
-    ensures { λ r. ⌜ r ≡ packedRow 0 0 word 0 (Stage.B2 b) ⌝ }
+    ensures { λ r. ⌜ unpackedStep r ≡ inSixteen (rowOf 0 0 (unpacked word) 0 (Stage.B2 b)) ⌝ }
 {
     let bottom = below(b);
     leaves(PackedWord { bottom, ..word }, Next::Going(Stage::B3 { b }))
@@ -148,14 +144,14 @@ fn b2(word: PackedWord, b: u16) -> PackedStep
 
 // Load slot b−1.
 fn b3(word: PackedWord, x: u16, b: u16) -> PackedStep
-    ensures { λ r. ⌜ r ≡ packedRow 0 0 word x (Stage.B3 b) ⌝ }
+    ensures { λ r. ⌜ unpackedStep r ≡ inSixteen (rowOf 0 0 (unpacked word) x (Stage.B3 b)) ⌝ }
 {
     leaves(word, Next::Going(Stage::B4 { b, x }))
 }
 
 // Load age as (t, g); b−1 > t: return the node.
 fn b4(word: PackedWord, b: u16, x: u16) -> PackedStep
-    ensures { λ r. ⌜ r ≡ packedRow 0 0 word 0 (Stage.B4 b x) ⌝ }
+    ensures { λ r. ⌜ unpackedStep r ≡ inSixteen (rowOf 0 0 (unpacked word) 0 (Stage.B4 b x)) ⌝ }
 {
     let age = word.age;
     let t = age.top();
@@ -169,7 +165,7 @@ fn b4(word: PackedWord, b: u16, x: u16) -> PackedStep
 
 // Store 0 in bottom; b−1 = t: go to B6; else B7.
 fn b5(word: PackedWord, b: u16, x: u16, t: u16, g: u16) -> PackedStep
-    ensures { λ r. ⌜ r ≡ packedRow 0 0 word 0 (Stage.B5 b x t g) ⌝ }
+    ensures { λ r. ⌜ unpackedStep r ≡ inSixteen (rowOf 0 0 (unpacked word) 0 (Stage.B5 b x t g)) ⌝ }
 {
     let emptied = PackedWord { bottom: 0, ..word };
     if below(b) == t {
@@ -181,8 +177,7 @@ fn b5(word: PackedWord, b: u16, x: u16, t: u16, g: u16) -> PackedStep
 
 // If age is still (t, g), age becomes (0, next g); changed: return the node; else B7.
 fn b6(width: u8, word: PackedWord, b: u16, x: u16, t: u16, g: u16) -> PackedStep
-    requires { ⌜ width ≤ 16 ⌝ }
-    ensures { λ r. ⌜ r ≡ packedRow width 0 word 0 (Stage.B6 b x t g) ⌝ }
+    ensures { λ r. ⌜ unpackedStep r ≡ inSixteen (rowOf width 0 (unpacked word) 0 (Stage.B6 b x t g)) ⌝ }
 {
     if same_age(word, t, g) {
         reset(width, word, t, g, Next::Node(x))
@@ -193,16 +188,14 @@ fn b6(width: u8, word: PackedWord, b: u16, x: u16, t: u16, g: u16) -> PackedStep
 
 // Store (0, next g) in age; return NIL.
 fn b7(width: u8, word: PackedWord, t: u16, g: u16) -> PackedStep
-    requires { ⌜ width ≤ 16 ⌝ }
-    ensures { λ r. ⌜ r ≡ packedResets width word (packed t g) Next.Nil ⌝ }
+    ensures { λ r. ⌜ unpackedStep r ≡ inSixteen (resets width (unpacked word) g Next.Nil) ⌝ }
 {
     reset(width, word, t, g, Next::Nil)
 }
 
-// The row of a stage that is in range.
+// The row of a stage.
 pub(crate) fn row(width: u8, size: u8, word: PackedWord, loaded: u16, stage: Stage) -> PackedStep
-    requires { ⌜ InRange width size size (unpacked word) stage ⌝ }
-    ensures { λ r. ⌜ r ≡ packedRow width size word loaded stage ⌝ }
+    ensures { λ r. ⌜ unpackedStep r ≡ inSixteen (rowOf width size (unpacked word) loaded stage) ⌝ }
 {
     match stage {
         Stage::Idle => leaves(word, Next::Going(Stage::Idle)),

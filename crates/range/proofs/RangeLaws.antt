@@ -1,5 +1,5 @@
 -- `inRange` as facts on numbers, and back: what proofs use in place of the tests.
-use mathlib.Core.Path.{_≡_, refl, subst}
+use mathlib.Core.Path.{_≡_, refl}
 use mathlib.Core.Bool.{Bool, true, _&&_, and-eq-true-iff}
 use Prim.Native.Nat.{ℕ, _^_, _≤_, _<_}
 use borrow.Author.Tests.{ltb-true, leb-true, eqb-true, lt-ltb, le-leb, eq-eqb}
@@ -113,11 +113,3 @@ module _ (W C : ℕ) where
   pub range-in : (slots : ℕ) (w : Word) (s : Stage) → InRange W C slots w s → inRange W C slots w s ≡ true
   range-in slots w s h =
       joined (joined (in-sizes slots (h .sizes)) (joined (le-leb (w .bottom) C (h .word .bottom-in)) (in-age (w .top) (w .tag) (h .word .top-in) (h .word .tag-in)))) (in-stage s (h .stage))
-
--- the number of slots is C, so that the row may take C for it
-pub by-size : {W C slots : ℕ} {w : Word} {s : Stage} → InRange W C slots w s → InRange W C C w s
-by-size {W} {C} {slots} {w} {s} h = subst (λ (n : ℕ). InRange W C n w s) (h .sizes .all) h
-
--- what is known of a stage that was matched
-pub matched : {W C slots : ℕ} {w : Word} {s s′ : Stage} → InRange W C slots w s → s ≡ s′ → StageIn W C s′
-matched {W} {C} h p = subst (StageIn W C) p (h .stage)

@@ -1,4 +1,4 @@
--- What can be stepped: the desk gives 10, and a run 9, exactly where `inRange` fails.
+-- What can be stepped: the desk gives 10 exactly where `inRange` fails. In a run it never does (`every-step-in-range` of crate `runs`).
 use Prim.Native.Nat.{ℕ}
 use mathlib.Core.Bool.{Bool, true, _&&_}
 use lib.Dec.{ltb, leb, eqb}

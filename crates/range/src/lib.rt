@@ -1,4 +1,4 @@
-// What can be stepped: document 01's conditions at the desk, which a run shares.
+// What can be stepped: document 01's conditions at the desk.
 ghost use mathlib.Core.Path.{_≡_};
 ghost use Rattle.word.specs.Tag.{isTag};
 ghost use Rattle.range.specs.Range.{sizesIn, ageIn, wordIn, takeIn, popIn, stageIn, inRange};
@@ -69,7 +69,7 @@ fn stage_in(width: u8, size: u8, stage: Stage) -> bool
     }
 }
 
-// Whether a stage can be stepped: neither the desk's 10 nor a run's 9.
+// Whether a stage can be stepped, or gives the desk's 10.
 pub fn in_range(width: u8, size: u8, slots: usize, word: Word, stage: Stage) -> bool
     ensures { λ r. ⌜ r ≡ inRange width size slots word stage ⌝ }
 {

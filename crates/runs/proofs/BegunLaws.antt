@@ -1,7 +1,7 @@
 -- Every call that was begun is in the log once, those of a process in the order of its script, and nothing else is in it.
 use Prim.Native.Nat.{ℕ, zero, suc, _+_, _-_, _≤_, _<_}
 use mathlib.Core.Path.{_≡_, refl, sym, ap, _∙_, subst}
-use mathlib.Core.Bool.{Bool, true, false, cond, _&&_, _||_, false≢true, true≢false}
+use mathlib.Core.Bool.{Bool, true, false, cond, _&&_, false≢true, true≢false}
 use mathlib.Core.List.{List, [], _∷_, _++_, map, append-nil, append-assoc}
 use native.Mathlib.Omega.{arith}
 use native.Mathlib.Numerals.{add-one}
@@ -14,11 +14,10 @@ use Rattle.base.specs.Lists.{listOf}
 use Rattle.base.proofs.Lists.{listOf-getD}
 use Rattle.log.specs.Numbers.{push, bottomPop, topPop}
 use Rattle.log.specs.declared.Entry.{Entry}
-use Rattle.range.specs.Range.{inRange}
 use Rattle.word.specs.Stages.{rowNumber, isIdle}
 use Rattle.queue.specs.Step.{sameAge, rowOf, loaded, loadedSlot, stageAfter}
 use Rattle.queue.specs.declared.Next.{Next}
-use Rattle.queue.specs.declared.Next.the-variants.{Going, Done, Node, Nil, Lost, Full, Refused}
+use Rattle.queue.specs.declared.Next.the-variants.{Going, Done, Node, Nil, Lost, Full}
 use Rattle.word.specs.declared.Stage.{Stage}
 use Rattle.word.specs.declared.Stage.the-variants.{Idle, P1, P2, P3, T1, T2, T3, T4, B1, B2, B3, B4, B5, B6, B7}
 use Rattle.queue.specs.declared.Stepped.{Stepped}
@@ -33,9 +32,9 @@ use Rattle.runs.proofs.ClosingLaws.{lowest-busy, all-closed-idle}
 use Rattle.runs.specs.Moment.{queueOf, pushedNode, isTake, ended, Ended, Nothing, ends}
 use Rattle.runs.specs.Run.{lowest, closed, closingStep}
 use Rattle.runs.proofs.Induction.{nextOf, endedBy, recordAfter, turn-keeps, closed-keeps}
-use Rattle.runs.specs.Shown.{entriesOf, callIn, callsBy, firstCall, callsBegun, BegunOnce}
+use Rattle.runs.specs.Shown.{entriesOf, callIn, callsBy, firstCall, callsBegun, EachBegunOnce}
 use Rattle.runs.specs.State.{Process, State, nobody, scripted, start, queueAt, processAt}
-use Rattle.runs.specs.Turn.{firstStage, begun, ready, isRefused, entriesIn, act, turn, turning}
+use Rattle.runs.specs.Turn.{firstStage, begun, ready, entriesIn, act, turn, turning}
 use Rattle.base.proofs.Cases.{either-way}
 use Rattle.runs.proofs.TurnLaws.{begins}
 
@@ -62,7 +61,6 @@ ended-by p n r owner t (Node x) = either-way (λ (e : Entry). e .process ≡ p) 
 ended-by p n r owner t Nil = either-way (λ (e : Entry). e .process ≡ p) (isTake (r .call)) (λ e. refl) (λ e. refl)
 ended-by p n r owner t Lost = refl
 ended-by p n r owner t Full = refl
-ended-by p n r owner t Refused = tt
 
 by-own : (p : ℕ) (over : Ended) → By p over → callsBy p (entriesIn over) ≡ map callIn (entriesIn over)
 by-own p Nothing h = refl
@@ -89,7 +87,6 @@ Keeps k (Node x) = bottomPop ≤ k
 Keeps k Nil = bottomPop ≤ k
 Keeps k Lost = k ≡ topPop
 Keeps k Full = k ≡ push
-Keeps k Refused = Unit {0}
 
 abbrev KeptBy : ℕ → Stepped → Type 0
 KeptBy k o = Keeps k (o .next)
@@ -114,10 +111,7 @@ row-keeps W C w v (B7 b x t g) = omega arith
 step-keeps : (W C p : ℕ) (r : Process) (s : State) → Keeps (kindAt (r .stage)) (nextOf W C p r s)
 step-keeps W C p r s =
     let q : ℕ = queueOf p (r .call) in
-    let w : Word = queueAt (s .bench) q .word in
-    let slots : List ℕ = getD (s .slots) q [] in
-    either-way (KeptBy (kindAt (r .stage))) (inRange W C (length slots) w (r .stage))
-    (λ e. row-keeps W C w (loaded slots (loadedSlot (r .stage))) (r .stage)) (λ e. tt)
+    row-keeps W C (queueAt (s .bench) q .word) (loaded (getD (s .slots) q []) (loadedSlot (r .stage))) (r .stage)
 
 -- a call by its kind, as `callIn` has it
 push-call : (c : Call) → kindCalled c ≡ push → Push (pushedNode c) ≡ c
@@ -159,7 +153,6 @@ next-kind k (Node x) h e = absurd (true≢false e)
 next-kind k Nil h e = absurd (true≢false e)
 next-kind k Lost h e = absurd (true≢false e)
 next-kind k Full h e = absurd (true≢false e)
-next-kind k Refused h e = absurd (true≢false e)
 
 -- the call that a process at a stage is in; none where it is idle
 abbrev callAt : Stage → Call → List Call
@@ -173,17 +166,16 @@ Told c e = callIn e ∷ [] ≡ c ∷ []
 
 -- a step either goes on in its call or ends it, and then the entry tells of it
 told-once : (p n : ℕ) (r owner : Process) (t : ℕ) (next : Next)
-    → Keeps (kindCalled (r .call)) next → 1 ≤ kindCalled (r .call) → isRefused next ≡ false
+    → Keeps (kindCalled (r .call)) next → 1 ≤ kindCalled (r .call)
     → map callIn (entriesIn (ended p n r owner t next)) ++ callAt (stageAfter next) (r .call) ≡ r .call ∷ []
-told-once p n r owner t (Going z) k busy e = rw (going-busy z (omega arith))
-told-once p n r owner t Done k busy e = alone (push-call (r .call) k)
-told-once p n r owner t (Node x) k busy e =
+told-once p n r owner t (Going z) k busy = rw (going-busy z (omega arith))
+told-once p n r owner t Done k busy = alone (push-call (r .call) k)
+told-once p n r owner t (Node x) k busy =
     either-way (Told (r .call)) (isTake (r .call)) (λ d. alone (take-call p (r .call) d)) (λ d. alone (pop-call (r .call) d k))
-told-once p n r owner t Nil k busy e =
+told-once p n r owner t Nil k busy =
     either-way (Told (r .call)) (isTake (r .call)) (λ d. alone (take-call p (r .call) d)) (λ d. alone (pop-call (r .call) d k))
-told-once p n r owner t Lost k busy e = alone (lost-call p (r .call) k)
-told-once p n r owner t Full k busy e = alone (push-call (r .call) k)
-told-once p n r owner t Refused k busy e = absurd (true≢false e)
+told-once p n r owner t Lost k busy = alone (lost-call p (r .call) k)
+told-once p n r owner t Full k busy = alone (push-call (r .call) k)
 
 -- the calls told so far of process p, and then the one that it is in, are those that it has begun of its script
 record Follows (f : RunFile) (told : List Call) (p : ℕ) (r : Process) : Type 0 where
@@ -275,10 +267,10 @@ module _ (W C p : ℕ) (r : Process) (s : State) where
       ∙ ap (λ (l : List Call). callsBy j (s .log) ++ l) (by-other p j (endedBy W C p r s) ends-own ne)
       ∙ append-nil (callsBy j (s .log))
 
-  -- and where it is not refused, of its call once
-  own-calls : isRefused (nextOf W C p r s) ≡ false → Keeps (kindCalled (r .call)) (nextOf W C p r s) → 1 ≤ kindCalled (r .call)
+  -- and of its call once
+  own-calls : Keeps (kindCalled (r .call)) (nextOf W C p r s) → 1 ≤ kindCalled (r .call)
       → callsBy p logAfter ++ callAt (stageAfter (nextOf W C p r s)) (r .call) ≡ callsBy p (s .log) ++ (r .call ∷ [])
-  own-calls e kept known =
+  own-calls kept known =
       let q : ℕ = queueOf p (r .call) in
       let told : List Call = callsBy p (s .log) in
       let new : List Entry = entriesIn (endedBy W C p r s) in
@@ -287,11 +279,11 @@ module _ (W C p : ℕ) (r : Process) (s : State) where
       ∙ append-assoc told (callsBy p new) rest
       ∙ ap (λ (l : List Call). told ++ (l ++ rest)) (by-own p (endedBy W C p r s) ends-own)
       ∙ ap (λ (l : List Call). told ++ l)
-      (told-once p (s .bench .steps) r (processAt (s .bench) q) (queueAt (s .bench) q .word .top) (nextOf W C p r s) kept known e)
+      (told-once p (s .bench .steps) r (processAt (s .bench) q) (queueAt (s .bench) q .word .top) (nextOf W C p r s) kept known)
 
-  own-follows : (f : RunFile) → isIdle (r .stage) ≡ false → isRefused (nextOf W C p r s) ≡ false → Follows f (callsBy p (s .log)) p r
+  own-follows : (f : RunFile) → isIdle (r .stage) ≡ false → Follows f (callsBy p (s .log)) p r
       → Follows f (callsBy p logAfter) p (recordAfter W C p r s)
-  own-follows f busy e h =
+  own-follows f busy h =
       let next : Next = nextOf W C p r s in
       let kept : Keeps (kindCalled (r .call)) next = subst (λ (k : ℕ). Keeps k next) (h .kind busy) (step-keeps W C p r s) in
       let known : 1 ≤ kindCalled (r .call) = omega (arith, busy-kind (r .stage) busy, h .kind busy) in record {
@@ -299,7 +291,7 @@ module _ (W C p : ℕ) (r : Process) (s : State) where
         from = h .from;
         upto = h .upto;
         kind = next-kind (kindCalled (r .call)) next kept;
-        calls = own-calls e kept known ∙ busy-calls f (callsBy p (s .log)) p r h busy;
+        calls = own-calls kept known ∙ busy-calls f (callsBy p (s .log)) p r h busy;
       }
 
 -- the log of a run tells of each process what it has begun
@@ -307,15 +299,15 @@ record Tells (f : RunFile) (s : State) : Type 0 where
   follows : (p : ℕ) → p < 8 → Follows f (callsBy p (s .log)) p (processAt (s .bench) p)
   others : (p : ℕ) → 8 ≤ p → callsBy p (s .log) ≡ []
 
--- as long as no step is refused
+-- with eight processes throughout
 record Sound (f : RunFile) (s : State) : Type 0 where
   eight : length (s .bench .processes) ≡ 8
-  tells : s .bench .refused ≡ false → Tells f s
+  tells : Tells f s
 
 act-tells : (f : RunFile) (W C p : ℕ) (r : Process) (s : State) → length (s .bench .processes) ≡ 8 → p < 8 → isIdle (r .stage) ≡ false
-    → isRefused (nextOf W C p r s) ≡ false → Follows f (callsBy p (s .log)) p r → Tells f s → Tells f (act W C p r s)
+    → Follows f (callsBy p (s .log)) p r → Tells f s → Tells f (act W C p r s)
 unfolding act
-act-tells f W C p r s eight there busy e h was = record {
+act-tells f W C p r s eight there busy h was = record {
   follows = λ j lt. split j lt (ℕ-discrete j p);
   others = λ j ge. other-calls W C p r s j (λ d. omega arith) ∙ was .others j ge;
 }
@@ -332,28 +324,18 @@ act-tells f W C p r s eight there busy e h was = record {
     split : (j : ℕ) → j < 8 → Dec (j ≡ p) → Follows f (callsBy j log′) j (getD (set l p r′) j nobody)
     split j lt (yes d) =
         subst (λ (k : ℕ). Follows f (callsBy k log′) k (getD (set l p r′) k nobody)) (sym d)
-        (subst (Follows f (callsBy p log′) p) (sym (getD-set-same l p r′ nobody (omega (arith, eight)))) (own-follows W C p r s f busy e h))
+        (subst (Follows f (callsBy p log′) p) (sym (getD-set-same l p r′ nobody (omega (arith, eight)))) (own-follows W C p r s f busy h))
     split j lt (no d) =
         subst (Follows f (callsBy j log′) j) (sym (getD-set-other l p j r′ nobody d))
         (subst (λ (told : List Call). Follows f told j (processAt (s .bench) j)) (sym (other-calls W C p r s j d)) (was .follows j lt))
 
 act-sound : (f : RunFile) (W C p : ℕ) (r : Process) (s : State) → p < 8 → isIdle (r .stage) ≡ false
-    → (Tells f s → Follows f (callsBy p (s .log)) p r) → Sound f s → Sound f (act W C p r s)
+    → Follows f (callsBy p (s .log)) p r → Sound f s → Sound f (act W C p r s)
 unfolding act
 act-sound f W C p r s there busy follows h = record {
   eight = length-set (s .bench .processes) p (recordAfter W C p r s) ∙ h .eight;
-  tells = λ e.
-      let was : Tells f s = h .tells (left-false (s .bench .refused) (isRefused (nextOf W C p r s)) e) in
-      act-tells f W C p r s (h .eight) there busy (right-false (s .bench .refused) (isRefused (nextOf W C p r s)) e) (follows was) was;
+  tells = act-tells f W C p r s (h .eight) there busy follows (h .tells);
 }
-  where
-    left-false : (a b : Bool) → (a || b) ≡ false → a ≡ false
-    left-false true b e = e
-    left-false false b e = refl
-
-    right-false : (a b : Bool) → (a || b) ≡ false → b ≡ false
-    right-false true b e = absurd (true≢false e)
-    right-false false b e = e
 
 -- a process that has a step to make is one of the eight
 turning-there : (calls : List Call) (p : ℕ) (s : State) → length (s .bench .processes) ≡ 8 → isIdle (turning calls p s .stage) ≡ false → p < 8
@@ -368,20 +350,20 @@ turning-there calls p s eight busy = split (decLt p 8)
 turn-sound : (f : RunFile) → InRanges f → (p : ℕ) (s : State) → Sound f s → Sound f (turn (f .width) (f .size) (f .calls) p s)
 turn-sound f ok p s h =
     turn-keeps (f .width) (f .size) (f .calls) (Sound f) p s
-    (record { eight = h .eight; tells = λ e. record { follows = h .tells e .follows; others = h .tells e .others } })
+    (record { eight = h .eight; tells = record { follows = h .tells .follows; others = h .tells .others } })
     (λ busy.
     let there : p < 8 = turning-there (f .calls) p s (h .eight) busy in
     act-sound f (f .width) (f .size) p (turning (f .calls) p s) s there busy
-    (λ was. ready-follows f (ok .count) (callsBy p (s .log)) p (s .bench .steps) (processAt (s .bench) p) (was .follows p there) busy) h)
+    (ready-follows f (ok .count) (callsBy p (s .log)) p (s .bench .steps) (processAt (s .bench) p) (h .tells .follows p there) busy) h)
 
 closing-sound : (f : RunFile) (s : State) → lowest (s .bench .processes) < 8 → Sound f s → Sound f (closingStep (f .width) (f .size) s)
 closing-sound f s lt h =
     let p : ℕ = lowest (s .bench .processes) in
     let busy : isIdle (processAt (s .bench) p .stage) ≡ false = lowest-busy (s .bench .processes) (omega (arith, h .eight)) in
-    act-sound f (f .width) (f .size) p (processAt (s .bench) p) s lt busy (λ was. was .follows p lt) h
+    act-sound f (f .width) (f .size) p (processAt (s .bench) p) s lt busy (h .tells .follows p lt) h
 
 start-sound : (f : RunFile) → Sound f (start f)
-start-sound f = record { eight = refl; tells = λ e. record { follows = λ p lt. at p lt; others = λ p ge. refl } }
+start-sound f = record { eight = refl; tells = record { follows = λ p lt. at p lt; others = λ p ge. refl } }
   where
     waits : (p : ℕ) → Follows f [] p (scripted (f .shares) p)
     waits p = record {
@@ -403,10 +385,10 @@ sound f ok =
     closed-keeps f (λ n s. Sound f s) (λ n p s. turn-sound f ok p s) (λ n s. closing-sound f s) (start-sound f) .holds
 
 -- after the closing no call is half-done, so the log tells of all that were begun
-module _ (f : RunFile) (ok : InRanges f) (good : closed f .bench .refused ≡ false) where
+module _ (f : RunFile) (ok : InRanges f) where
   told-all : (p : ℕ) → p < 8 → callsBy p (closed f .log) ≡ take (callsBegun f (closed f) p) (script f p)
   told-all p lt =
-      idle-calls f (callsBy p (closed f .log)) p (processAt (closed f .bench) p) (sound f ok .tells good .follows p lt) (all-closed-idle f p)
+      idle-calls f (callsBy p (closed f .log)) p (processAt (closed f .bench) p) (sound f ok .tells .follows p lt) (all-closed-idle f p)
 
   -- a process from P on has no script
   none-told : (p : ℕ) → length (f .shares) ≤ p → callsBy p (closed f .log) ≡ []
@@ -418,7 +400,7 @@ module _ (f : RunFile) (ok : InRanges f) (good : closed f .bench .refused ≡ fa
           told-all p lt
           ∙ ap (λ (m : ℕ). take n (take m (drop (firstCall f p) (f .calls)))) (List·getD-eq-default (f .shares) 0 {n = p} ge)
           ∙ take-nil n
-      split (no far) = sound f ok .tells good .others p (omega arith)
+      split (no far) = sound f ok .tells .others p (omega arith)
 
 -- a log that tells of no process from P on has no entry of one
 no-entry : (P : ℕ) (l : List Entry) → ((p : ℕ) → P ≤ p → callsBy p l ≡ []) → (k : ℕ) (d : Entry) → k < length l → getD l k d .process < P
@@ -436,14 +418,14 @@ no-entry P (e ∷ l) h (suc k) d lt = no-entry P l (λ p ge. later p (eqb (e .pr
     later p true none = absurd (let z : _≡_ {A = ℕ} 0 1 = cc in omega arith)
     later p false none = none
 
--- of a run in which no step is refused, which all are (`begun-once` of InRange)
-pub begun-unrefused : (f : RunFile) → InRanges f → closed f .bench .refused ≡ false → BegunOnce f (closed f)
-begun-unrefused f ok good = record {
-  told = λ p lt. told-all f ok good p (omega (arith, ok .processes));
+-- every call that was begun is in the log once
+pub begun-once : EachBegunOnce
+begun-once f ok = record {
+  told = λ p lt. told-all f ok p (omega (arith, ok .processes));
   place = λ p lt. omega (arith, follows p lt .from);
   within = λ p lt. omega (arith, follows p lt .upto, follows p lt .stop);
-  below = no-entry (length (f .shares)) (closed f .log) (none-told f ok good);
+  below = no-entry (length (f .shares)) (closed f .log) (none-told f ok);
 }
   where
     follows : (p : ℕ) → p < length (f .shares) → Follows f (callsBy p (closed f .log)) p (processAt (closed f .bench) p)
-    follows p lt = sound f ok .tells good .follows p (omega (arith, ok .processes))
+    follows p lt = sound f ok .tells .follows p (omega (arith, ok .processes))

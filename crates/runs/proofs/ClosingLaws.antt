@@ -7,14 +7,11 @@ use native.Mathlib.Omega.{arith}
 use native.Mathlib.Decide.{decLt}
 use lib.ListN.{length, getD, set, length-set}
 use Rattle.base.specs.Lists.{listOf}
-use Rattle.range.specs.Range.{inRange}
 use Rattle.word.specs.Stages.{isIdle, stepsLeft}
-use Rattle.queue.specs.Step.{steppedOn, loaded, loadedSlot, stageAfter}
+use Rattle.queue.specs.Step.{loaded, loadedSlot, stageAfter}
 use Rattle.queue.proofs.StepLaws.{lowers, returned}
 use Rattle.word.specs.declared.Stage.{Stage}
 use Rattle.word.specs.declared.Stage.the-variants.{Idle, P1, P2, P3, T1, T2, T3, T4, B1, B2, B3, B4, B5, B6, B7}
-use Rattle.queue.specs.declared.Stepped.{Stepped}
-use Rattle.word.specs.declared.Word.{Word}
 use Rattle.runfile.specs.File.{RunFile}
 use Rattle.runfile.specs.declared.Call.{Call}
 use Rattle.runs.specs.Moment.{queueOf}
@@ -74,16 +71,11 @@ some-left z e = split (decLt 0 (stepsLeft z))
     split (yes h) = h
     split (no h) = absurd (true≢false (sym (none-left z (omega arith)) ∙ e))
 
--- a step lowers what is left; a refused one leaves the process idle
-stepped-lowers : (W C : ℕ) (w : Word) (slots : List ℕ) (z : Stage) → stepsLeft (stageAfter (steppedOn W C w slots z .next)) ≤ stepsLeft z - 1
-stepped-lowers W C w slots z =
-    either-way (λ (o : Stepped). stepsLeft (stageAfter (o .next)) ≤ stepsLeft z - 1) (inRange W C (length slots) w z)
-    (λ e. lowers W C w (loaded slots (loadedSlot z)) z) (λ e. omega arith)
-
+-- a step lowers what is left
 step-lowers : (W C p : ℕ) (r : Process) (s : State) → stepsLeft (stageAfter (nextOf W C p r s)) ≤ stepsLeft (r .stage) - 1
 step-lowers W C p r s =
     let q : ℕ = queueOf p (r .call) in
-    stepped-lowers W C (queueAt (s .bench) q .word) (getD (s .slots) q []) (r .stage)
+    lowers W C (queueAt (s .bench) q .word) (loaded (getD (s .slots) q []) (loadedSlot (r .stage))) (r .stage)
 
 -- before the closing: there are eight processes, and each half-done one has made a step of its call
 record Sixes (s : State) : Type 0 where

@@ -11,7 +11,7 @@ use Rattle.base.specs.Lists.{listOf}
 use Rattle.word.specs.Stages.{isIdle}
 use Rattle.queue.specs.Step.{stageAfter}
 use Rattle.queue.specs.declared.Next.{Next}
-use Rattle.queue.specs.declared.Next.the-variants.{Going, Done, Node, Nil, Lost, Full, Refused}
+use Rattle.queue.specs.declared.Next.the-variants.{Going, Done, Node, Nil, Lost, Full}
 use Rattle.runfile.specs.Check.{sum}
 use Rattle.runfile.specs.File.{RunFile}
 use Rattle.runfile.specs.declared.Call.{Call}
@@ -45,7 +45,6 @@ ends-idle p r s (Node x) = omega arith
 ends-idle p r s Nil = omega arith
 ends-idle p r s Lost = omega arith
 ends-idle p r s Full = omega arith
-ends-idle p r s Refused = omega arith
 
 abbrev pub Bounded : ℕ → State → Type 0
 Bounded N s = total (s .bench .processes) + length (s .log) ≤ N

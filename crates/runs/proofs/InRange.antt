@@ -1,8 +1,7 @@
--- No step of a run of a good file is out of range: number 9 never arises, and no slot at or above C is touched. Gone-round runs are
--- included.
+-- No step of a run of a good file is out of range, and no slot at or above C is touched. Gone-round runs are included.
 use Prim.Native.Nat.{ℕ, _≤_}
-use mathlib.Core.Path.{_≡_, refl, sym, _∙_, subst}
-use mathlib.Core.Bool.{true, false}
+use mathlib.Core.Path.{_≡_, refl, sym, _∙_}
+use mathlib.Core.Bool.{true}
 use mathlib.Core.List.{List, []}
 use native.Mathlib.Omega.{arith}
 use lib.Dec.{ltb}
@@ -10,9 +9,7 @@ use lib.ListN.{length, getD}
 use Rattle.range.specs.Range.{inRange}
 use Rattle.queue.specs.Step.{loadedSlot, loaded}
 use Rattle.base.proofs.Cases.{either-way, ever}
-use Rattle.queue.specs.Step.{StoresBelow}
 use Rattle.queue.proofs.StepLaws.{loads-below, stores-below}
-use Rattle.queue.specs.declared.Stepped.{Stepped}
 use Rattle.runfile.specs.Encode.{InRanges}
 use Rattle.base.specs.Bytes.{Bytes}
 use Rattle.runfile.specs.File.{RunFile, Answer, refused, good, fileOf}
@@ -20,17 +17,12 @@ use Rattle.runfile.proofs.NumberLaws.{refused-few}
 use Rattle.runfile.proofs.RangeLaws.{good-ranges}
 use Rattle.runs.specs.Moment.{queueOf}
 use Rattle.runs.specs.Run.{Outcome, refusal, finished, roomFor, closed, outcome, runOf}
-use Rattle.runs.specs.Shown.{Touches, BelowC, EveryStepInRange, Never9, EachBegunOnce}
-use Rattle.runs.proofs.BegunLaws.{begun-unrefused}
-use Rattle.runs.specs.State.{Process, State, queueAt, processAt}
-use Rattle.runs.proofs.Sound.{slotsAt, placed-in-range, stepping-is}
+use Rattle.runs.specs.Shown.{Touches, BelowC, EveryStepInRange, Never9}
+use Rattle.runs.specs.State.{Process, queueAt, processAt}
+use Rattle.runs.proofs.Sound.{placed-in-range}
+use Rattle.runs.specs.inner.Sound.{slotsAt}
 use Rattle.runs.proofs.Scripts.{sizesOf, fit, ready-case}
-use Rattle.runs.specs.States.{StateOf}
-use Rattle.runs.proofs.States.{sound, each-scripted, the-end}
-
--- in no state of a run a step was refused
-pub none-refused : (f : RunFile) → InRanges f → (s : State) → StateOf f s → s .bench .refused ≡ false
-none-refused f h s o = sound f h s o .going
+use Rattle.runs.proofs.States.{sound, each-scripted}
 
 pub below-C : BelowC
 below-C f h s o p lt =
@@ -39,9 +31,8 @@ below-C f h s o p lt =
     (λ e. record { loads = loads-below (f .width) (f .size) (processAt (s .bench) p .stage) (v .each p lt .stage); stores = λ d. ever (sym e ∙ d) })
     (λ r k c. record {
       loads = loads-below (f .width) (f .size) (r .stage) (k .placed .stage);
-      stores = λ _. subst (λ (x : Stepped). StoresBelow (f .size) (x .store)) (sym (stepping-is (sizesOf f) (fit f h) s v p r k))
-          (stores-below (f .width) (f .size) (queueAt (s .bench) (queueOf p (r .call)) .word) (loaded (slotsAt s (queueOf p (r .call))) (loadedSlot (r .stage)))
-          (r .stage) (k .placed .stage));
+      stores = λ _. stores-below (f .width) (f .size) (queueAt (s .bench) (queueOf p (r .call)) .word)
+          (loaded (slotsAt s (queueOf p (r .call))) (loadedSlot (r .stage))) (r .stage) (k .placed .stage);
     })
 
 pub every-step-in-range : EveryStepInRange
@@ -65,14 +56,9 @@ run-cases Q file b room refuses runs = by (fileOf file) refl
     by (refused n) e = let k = refused-few file n e in refuses n (k .0) (omega (arith, k .1))
     by (good f) e =
         let h : InRanges f = good-ranges file f b e in
-        either-way Q (ltb room (roomFor f)) (λ _. refuses 8 (omega arith) (omega arith))
-        (λ _. either-way Q (closed f .bench .refused) (λ i. ever (sym i ∙ none-refused f h (closed f) (the-end f))) (λ _. runs f e h))
+        either-way Q (ltb room (roomFor f)) (λ _. refuses 8 (omega arith) (omega arith)) (λ _. runs f e h)
 
--- number 9 never arises
+-- no file gives number 9
 pub never-9 : Never9
 never-9 file b room =
     run-cases (λ (o : Outcome). o .number ≡ 9 → ⊥) file b room (λ n low high e. omega arith) (λ f e h z. let k : _≡_ {A = ℕ} 0 9 = z in omega arith)
-
--- every call that was begun is in the log once
-pub begun-once : EachBegunOnce
-begun-once f h = begun-unrefused f h (none-refused f h (closed f) (the-end f))

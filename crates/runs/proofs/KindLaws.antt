@@ -1,10 +1,11 @@
 -- Which calls a stage belongs to, and that a step stays within its call.
 use Prim.Native.Nat.{ℕ, _-_}
 use mathlib.Core.Path.{_≡_, refl, sym, _∙_}
-use mathlib.Core.Bool.{Bool, true, false, _&&_, _||_}
+use mathlib.Core.Bool.{true, false}
 use lib.Dec.{ltb, leb, eqb}
-use Rattle.runs.specs.Moment.{queueOf, isTake, pushedNode}
-use Rattle.runs.specs.Turn.{firstStage, isRefused}
+use Rattle.runs.specs.Moment.{queueOf, isTake}
+use Rattle.runs.specs.inner.Sound.{isPush, isTop, isOwn, isFirst, Suits}
+use Rattle.runs.specs.Turn.{firstStage}
 use Rattle.word.specs.Stages.{rowNumber, isIdle, pastB2}
 use Rattle.queue.specs.Step.{sameAge, rowOf, stageAfter}
 use Rattle.base.proofs.Cases.{either-way, never, ever}
@@ -16,19 +17,6 @@ use Rattle.queue.specs.declared.Next.the-variants as next
 use Rattle.queue.specs.declared.Stepped.{Stepped}
 use Rattle.runfile.specs.declared.Call.{Call}
 use Rattle.runfile.specs.declared.Call.the-variants.{Push, Pop, Take}
-
--- a push's stage; a top pop's; one of the owner's calls; the first of a call
-abbrev pub isPush : Stage → Bool
-isPush s = leb 1 (rowNumber s) && leb (rowNumber s) 3
-
-abbrev pub isTop : Stage → Bool
-isTop s = leb 4 (rowNumber s) && leb (rowNumber s) 7
-
-abbrev pub isOwn : Stage → Bool
-isOwn s = isPush s || leb 8 (rowNumber s)
-
-abbrev pub isFirst : Stage → Bool
-isFirst s = eqb (rowNumber s) 1 || eqb (rowNumber s) 4 || eqb (rowNumber s) 8
 
 -- what a step from the stage s to the stage s′ keeps
 pub record Within (s s′ : Stage) : Type 0 where
@@ -78,12 +66,6 @@ within W C w v (B6 b x t g) =
     either-way (To (B6 b x t g)) (sameAge w t g) (λ _. of-pop _ _ refl (λ e. e) (λ e. e) refl (λ _. refl)) (λ _. of-pop _ _ refl (λ e. e) (λ e. e) refl (λ _. refl))
 within W C w v (B7 b x t g) = of-pop _ _ refl (λ e. e) (λ e. e) refl (λ _. refl)
 
--- a stage of the owner's is in no top pop's call, a top pop's is in one, and a push's is in the call that pushes the node
-pub record Suits (call : Call) (s : Stage) : Type 0 where
-  pub own : isOwn s ≡ true → isTake call ≡ false
-  pub top : isTop s ≡ true → isTake call ≡ true
-  pub push : isPush s ≡ true → call ≡ Push (pushedNode call)
-
 pub still-suits : (call : Call) (s s′ : Stage) → Within s s′ → Suits call s → Suits call s′
 still-suits call s s′ k h = record { own = λ e. h .own (k .own e); top = λ e. h .top (k .top e); push = λ e. h .push (k .push e) }
 
@@ -113,27 +95,6 @@ idle-is (B4 b x) e = never e
 idle-is (B5 b x t g) e = never e
 idle-is (B6 b x t g) e = never e
 idle-is (B7 b x t g) e = never e
-
--- a row refuses nothing
-abbrev Taken : Stepped → Type 0
-Taken o = isRefused (o .next) ≡ false
-
-pub no-refusal : (W C : ℕ) (w : Word) (v : ℕ) (s : Stage) → isRefused (rowOf W C w v s .next) ≡ false
-no-refusal W C w v Idle = refl
-no-refusal W C w v (P1 node) = either-way Taken (eqb (w .bottom) C) (λ e. refl) (λ e. refl)
-no-refusal W C w v (P2 node b) = refl
-no-refusal W C w v (P3 b) = refl
-no-refusal W C w v T1 = refl
-no-refusal W C w v (T2 t g) = either-way Taken (leb (w .bottom) t) (λ e. refl) (λ e. refl)
-no-refusal W C w v (T3 t g b) = refl
-no-refusal W C w v (T4 t g b x) = either-way Taken (sameAge w t g) (λ e. refl) (λ e. refl)
-no-refusal W C w v B1 = either-way Taken (eqb (w .bottom) 0) (λ e. refl) (λ e. refl)
-no-refusal W C w v (B2 b) = refl
-no-refusal W C w v (B3 b) = refl
-no-refusal W C w v (B4 b x) = either-way Taken (ltb (w .top) (b - 1)) (λ e. refl) (λ e. refl)
-no-refusal W C w v (B5 b x t g) = refl
-no-refusal W C w v (B6 b x t g) = either-way Taken (sameAge w t g) (λ e. refl) (λ e. refl)
-no-refusal W C w v (B7 b x t g) = refl
 
 -- a call that is no top pop is on the process's own queue
 pub own-queue : (p : ℕ) (call : Call) → isTake call ≡ false → queueOf p call ≡ p
@@ -167,7 +128,6 @@ Gives s (next.Node x) = Unit {0}
 Gives s next.Nil = Unit {0}
 Gives s next.Lost = Unit {0}
 Gives s next.Full = isPush s ≡ true
-Gives s next.Refused = Unit {0}
 
 abbrev GivesBy : Stage → Stepped → Type 0
 GivesBy s o = Gives s (o .next)

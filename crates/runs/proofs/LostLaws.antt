@@ -5,17 +5,16 @@ use mathlib.Core.List.{List, []}
 use mathlib.Core.Logic.{_↔_}
 use native.Mathlib.Omega.{arith}
 use lib.Dec.{eqb, ltb, leb}
-use lib.ListN.{length, getD}
+use lib.ListN.{getD}
 use Rattle.log.specs.Numbers.{lost}
 use Rattle.log.specs.declared.Entry.{Entry}
-use Rattle.range.specs.Range.{inRange}
 use Rattle.word.specs.Stages.{isIdle}
 use Rattle.word.specs.declared.Stage.{Stage}
 use Rattle.word.specs.declared.Stage.the-variants.{Idle, P1, P2, P3, T1, T2, T3, T4, B1, B2, B3, B4, B5, B6, B7}
 use Rattle.word.specs.declared.Word.{Word}
 use Rattle.queue.specs.Step.{sameAge, rowOf, loadedSlot, loaded}
 use Rattle.queue.specs.declared.Next.{Next}
-use Rattle.queue.specs.declared.Next.the-variants.{Going, Done, Node, Nil, Lost, Full, Refused}
+use Rattle.queue.specs.declared.Next.the-variants.{Going, Done, Node, Nil, Lost, Full}
 use Rattle.queue.specs.declared.Stepped.{Stepped}
 use Rattle.queue.proofs.StepLaws.{failed-T4}
 use Rattle.base.proofs.Cases.{either-way, ever}
@@ -23,8 +22,8 @@ use Rattle.runs.specs.Moment.{queueOf, isTake, ended}
 use Rattle.runs.specs.Shown.{FailsT4, Writes3, Lost3}
 use Rattle.runs.specs.State.{Process, State, queueAt, processAt}
 use Rattle.runs.specs.Turn.{stepping, ending}
-use Rattle.runs.proofs.Sound.{slotsAt, stepping-is}
-use Rattle.runs.proofs.Scripts.{sizesOf, fit, ready-case}
+use Rattle.runs.specs.inner.Sound.{slotsAt}
+use Rattle.runs.proofs.Scripts.{ready-case}
 use Rattle.runs.proofs.States.{sound, each-scripted}
 
 -- what an answer that is written with 3 is
@@ -37,7 +36,6 @@ written-lost p n r owner t Nil h =
     absurd ((either-way (λ (e : Entry). e .result ≡ lost → ⊥) (isTake (r .call)) (λ _ d. omega arith) (λ _ d. omega arith)) h)
 written-lost p n r owner t Lost h = refl
 written-lost p n r owner t Full h = absurd (omega arith)
-written-lost p n r owner t Refused h = absurd h
 
 -- which rows answer so
 abbrev pub LostIn : Word → Stage → Next → Type 0
@@ -47,7 +45,6 @@ LostIn w s (Node x) = Unit {0}
 LostIn w s Nil = Unit {0}
 LostIn w s Lost = FailsT4 w s
 LostIn w s Full = Unit {0}
-LostIn w s Refused = Unit {0}
 
 abbrev LostBy : Word → Stage → Stepped → Type 0
 LostBy w s o = LostIn w s (o .next)
@@ -85,8 +82,7 @@ module _ (W C p : ℕ) (r : Process) (s : State) where
       let slots : List ℕ = getD (s .slots) q [] in
       subst (LostIn w (r .stage))
       (written-lost p (s .bench .steps) r (processAt (s .bench) q) (w .top) (stepping W C p r s .next) h)
-      (either-way (LostBy w (r .stage)) (inRange W C (length slots) w (r .stage))
-      (λ _. row-lost W C w (loaded slots (loadedSlot (r .stage))) (r .stage)) (λ _. tt))
+      (row-lost W C w (loaded slots (loadedSlot (r .stage))) (r .stage))
 
   lost-row : (v : ℕ) → FailsT4 w (r .stage) → Three (rowOf W C w v (r .stage) .next)
   lost-row v h =
@@ -101,6 +97,5 @@ lost-3 f h s o p lt =
     (λ e. (lost-only (f .width) (f .size) p (processAt (s .bench) p) s, λ y. ever (sym e ∙ ap isIdle (y .at))))
     (λ r k c. (
       lost-only (f .width) (f .size) p r s,
-      λ y. subst (λ (m : Stepped). Writes3 (ending p r (s .bench) (m .next))) (sym (stepping-is (sizesOf f) (fit f h) s v p r k))
-          (lost-row (f .width) (f .size) p r s (loaded (slotsAt s (queueOf p (r .call))) (loadedSlot (r .stage))) y),
+      lost-row (f .width) (f .size) p r s (loaded (slotsAt s (queueOf p (r .call))) (loadedSlot (r .stage))),
     ))

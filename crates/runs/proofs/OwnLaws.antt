@@ -2,7 +2,7 @@
 use Prim.Native.Nat.{ℕ, zero, suc, _+_, _-_, _≤_, _<_}
 use mathlib.Core.Path.{_≡_, refl, sym, ap, _∙_, subst}
 use mathlib.Core.Bool.{Bool, true, false, cond, _&&_}
-use mathlib.Core.List.{List, [], _∷_, _++_, append-nil}
+use mathlib.Core.List.{[], _∷_, _++_, append-nil}
 use native.Mathlib.Numerals.{add-one}
 use native.Mathlib.Omega.{arith}
 use lib.Dec.{ltb, leb, eqb}
@@ -17,7 +17,7 @@ use Rattle.word.specs.declared.Stage.{Stage}
 use Rattle.word.specs.declared.Word.{Word}
 use Rattle.queue.specs.Step.{loadedSlot, loaded, stageAfter}
 use Rattle.queue.specs.declared.Next.{Next}
-use Rattle.queue.specs.declared.Next.the-variants.{Going, Done, Node, Nil, Lost, Full, Refused}
+use Rattle.queue.specs.declared.Next.the-variants.{Going, Done, Node, Nil, Lost, Full}
 use Rattle.queue.specs.declared.Stepped.{Stepped}
 use Rattle.queue.proofs.StepLaws.{lowers}
 use Rattle.runfile.specs.Encode.{InRanges}
@@ -29,13 +29,13 @@ use Rattle.runs.specs.Run.{lowest, closingStep, closingSteps, closed}
 use Rattle.runs.specs.Shown.{whoSteps, ownSteps, ownMost, OwnStepsMost}
 use Rattle.runs.specs.State.{Process, State, nobody, queueAt, processAt, start}
 use Rattle.runs.specs.States.{scheduled, closing, StateOf, at-schedule, at-closing}
-use Rattle.runs.specs.Turn.{firstStage, processAfter, entriesIn, ending, acted, act, idle}
+use Rattle.runs.specs.Turn.{firstStage, processAfter, entriesIn, ending, act, idle}
 use Rattle.runs.proofs.ClosingLaws.{act-numbered, turn-numbered, some-left}
-use Rattle.runs.proofs.Induction.{closes}
-use Rattle.runs.proofs.KindLaws.{isPush, isTop, isOwn, Within, within, whose, Gives, gives}
+use Rattle.runs.proofs.KindLaws.{Within, within, whose, Gives, gives}
+use Rattle.runs.specs.inner.Sound.{isPush, isTop, isOwn, Sound, slotsAt}
 use Rattle.runs.proofs.LostLaws.{LostIn, row-lost}
-use Rattle.runs.proofs.Sound.{Sound, Steps, Was, goes, begins, slotsAt, rowAt, act-is}
-use Rattle.runs.proofs.Scripts.{sizesOf, fit, turn-case, start-fresh}
+use Rattle.runs.proofs.Sound.{Steps, Was, goes, begins, rowAt, act-is}
+use Rattle.runs.proofs.Scripts.{sizesOf, turn-case, start-fresh}
 use Rattle.runs.proofs.States.{scheduled-0, scheduled-next, closing-0, closing-next, closer, sound, each-scripted}
 
 -- the own steps of the call that a stage is of
@@ -158,10 +158,9 @@ module _ (f : RunFile) where
             (λ e. all-snoc Few (s .log) _ (own .told) (few 4 (of-take e))) (λ e. all-snoc Few (s .log) _ (own .told) (few 7 (most-all (r .stage))))
         told-after Lost g l = all-snoc Few (s .log) _ (own .told) (few 4 (subst (λ (z : Stage). mostIn z ≤ 4) (sym (l .at)) (omega arith)))
         told-after Full g l = all-snoc Few (s .log) _ (own .told) (few 3 (most-push (r .stage) g))
-        told-after Refused g l = subst (All Few) (sym (append-nil (s .log))) (own .told)
 
         own-act : Own (act (f .width) (f .size) p r s)
-        own-act = subst Own (sym (act-is (sizesOf f) (fit f h) s v p r k)) (record {
+        own-act = subst Own (sym (act-is (sizesOf f) s p r)) (record {
           going = λ j. if-set (λ (y : Process). isIdle (y .stage) ≡ false → Spent j (n + 1) y) (s .bench .processes) p j
               (processAfter n (queueAt (s .bench) q .resets) r (o .next)) nobody (omega (arith, k .below, v .records, h .processes))
               (λ e b. rw (e, add-one n) (omega (arith, after, most-kept (r .stage) _ (within (f .width) (f .size) w x (r .stage))))) (others j);

@@ -2,7 +2,8 @@
 use Prim.Native.Nat.{ℕ}
 use Rattle.runs.specs.State.{Process, State}
 use Rattle.runs.specs.Turn.{acted, idle}
-use Rattle.runs.proofs.Sound.{Sizes, Fit, Sound, Steps, Fresh, rowAt, sound-act, sound-idle, sound-fresh}
+use Rattle.runs.proofs.Sound.{Steps, Fresh, rowAt, sound-act, sound-idle, sound-fresh}
+use Rattle.runs.specs.inner.Sound.{Sizes, Fit, Sound}
 
 -- `Ok` is what is known besides of a record with which a process steps
 pub data Reached (f : Sizes) (Ok : State → ℕ → Process → Type 0) (s₀ : State) : State → Type 0 where

@@ -13,7 +13,6 @@ use Rattle.base.proofs.Lists.{listOf-length, listOf-getD}
 use Rattle.word.specs.Stages.{isIdle}
 use Rattle.base.proofs.Cases.{either-way, ever, if-set}
 use Rattle.queue.specs.Step.{stageAfter}
-use Rattle.queue.specs.declared.Next.the-variants as next
 use Rattle.word.specs.declared.Stage.{Stage}
 use Rattle.word.specs.declared.Stage.the-variants.{Idle}
 use Rattle.runfile.specs.Check.{sum}
@@ -25,7 +24,8 @@ use Rattle.runs.specs.Moment.{queueOf}
 use Rattle.runs.specs.State.{Process, State, nobody, scripted, queueAt, processAt, start}
 use Rattle.runs.specs.Turn.{begun, ready, processAfter, acted, act, idle, turnAs, turn}
 use Rattle.runs.proofs.KindLaws.{idle-is}
-use Rattle.runs.proofs.Sound.{Sizes, Fit, CallIn, Fresh, Sound, Steps, rowAt, begins-call, goes-on}
+use Rattle.runs.proofs.Sound.{Fresh, Steps, rowAt, begins-call, goes-on}
+use Rattle.runs.specs.inner.Sound.{Sizes, Fit, CallIn, Sound}
 
 abbrev pub sizesOf : RunFile → Sizes
 sizesOf f = record { width = f .width; size = f .size; processes = length (f .shares) }
@@ -148,7 +148,6 @@ module _ (f : RunFile) (h : InRanges f) where
     queue = λ p lt. rw (first-at p (omega (arith, h .processes))) lt;
     begun = λ p. out (λ (x : Process). x .start ≤ 0) (omega arith) (λ j. omega arith) p (decLt p 8);
     log = refl;
-    going = refl;
     gone = refl;
   }
     where

@@ -1,18 +1,18 @@
--- What holds in every state of every run, whatever calls its processes begin: words, slots and stages are in range, and no step was refused.
+-- What holds in every state of every run, whatever calls its processes begin: words, slots and stages are in range.
 use Prim.Native.Nat.{ℕ, _-_, _≤_, _<_}
 use mathlib.Core.Path.{_≡_, refl, sym, ap, _∙_, subst}
-use mathlib.Core.Bool.{Bool, true, false, cond}
+use mathlib.Core.Bool.{Bool, true, false, cond, _&&_}
 use mathlib.Core.List.{List, []}
 use native.Mathlib.Omega.{arith}
+use lib.Dec.{ltb}
 use lib.ListN.{length, getD, length-set, replicate, length-replicate, getD-replicate}
 use lib.Pow.{pow-pos}
 use Rattle.range.specs.Range.{inRange}
 use Rattle.range.specs.inner.Facts.{WordIn, StageIn}
 use Rattle.range.proofs.RangeLaws.{range-in}
 use Rattle.word.specs.Stages.{isIdle}
-use Rattle.queue.specs.Step.{loadedSlot, loaded, stored, rowOf, leaves}
+use Rattle.queue.specs.Step.{loadedSlot, loaded, stored}
 use Rattle.queue.proofs.StepLaws.{stays-in, StaysIn}
-use Rattle.queue.specs.declared.Next.the-variants as next
 use Rattle.word.specs.declared.Stage.the-variants.{Idle}
 use Rattle.queue.specs.declared.Stepped.{Stepped}
 use Rattle.queue.specs.declared.Store.{Store}
@@ -21,42 +21,10 @@ use Rattle.runfile.specs.declared.Call.{Call}
 use Rattle.runfile.specs.declared.Call.the-variants.{Push, Pop, Take}
 use Rattle.runs.specs.Moment.{queueOf}
 use Rattle.runs.specs.State.{Process, Queue, State, fresh, nobody, queueAt, processAt, start}
-use Rattle.runs.specs.Turn.{firstStage, begun, processAfter, stepping, acted, act, idle}
+use Rattle.runs.specs.Turn.{firstStage, begun, processAfter, stepping, acted, act, idle, turning, turnAs, turn}
 use Rattle.base.proofs.Cases.{never, if-set}
-use Rattle.runs.proofs.KindLaws.{isFirst, Suits, within, still-suits, first-suits, no-refusal}
-
-pub record Sizes : Type 0 where
-  pub width : ℕ
-  pub size : ℕ
-  pub processes : ℕ
-
-pub record Fit (f : Sizes) : Type 0 where
-  pub width : f .width ≤ 16
-  pub size : (1 ≤ f .size) × (f .size ≤ 64)
-  pub processes : (1 ≤ f .processes) × (f .processes ≤ 8)
-
-abbrev pub processes : Sizes → ℕ
-processes f = f .processes
-
-abbrev pub slotsAt : State → ℕ → List ℕ
-slotsAt s q = getD (s .slots) q []
-
--- a process's record: its stage is in range and suits its call, which is on one of the queues
-pub record Placed (f : Sizes) (p : ℕ) (r : Process) : Type 0 where
-  pub stage : StageIn (f .width) (f .size) (r .stage)
-  pub suits : Suits (r .call) (r .stage)
-  pub queue : queueOf p (r .call) < f .processes
-
-pub record Sound (f : Sizes) (s : State) : Type 0 where
-  pub queues : length (s .bench .queues) ≡ 8
-  pub records : length (s .bench .processes) ≡ 8
-  pub tables : length (s .slots) ≡ 8
-  pub words : (q : ℕ) → q < processes f → WordIn (f .width) (f .size) (queueAt (s .bench) q .word)
-  pub sizes : (q : ℕ) → q < processes f → length (slotsAt s q) ≡ f .size
-  pub going : s .bench .refused ≡ false
-  pub each : (p : ℕ) → p < processes f → Placed f p (processAt (s .bench) p)
-  pub later : (p : ℕ) → isFirst (processAt (s .bench) p .stage) ≡ false
-  pub absent : (p : ℕ) → processes f ≤ p → processAt (s .bench) p .stage ≡ Idle
+use Rattle.runs.proofs.KindLaws.{within, still-suits, first-suits, idle-is}
+use Rattle.runs.specs.inner.Sound.{isFirst, Suits, Sizes, Fit, processes, slotsAt, CallIn, AllIn, Placed, Sound}
 
 -- the record with which a process steps: its own, in the middle of a call, or with a call begun
 pub data Was (f : Sizes) (s : State) (p : ℕ) : Process → Type 0 where
@@ -69,17 +37,13 @@ pub record Steps (f : Sizes) (s : State) (p : ℕ) (r : Process) : Type 0 where
   pub placed : Placed f p r
   pub was : Was f s p r
 
--- a call on one of the queues, whatever node it pushes
-abbrev pub CallIn : ℕ → Call → Type 0
-CallIn processes (Push node) = Unit {0}
-CallIn processes Pop = Unit {0}
-CallIn processes (Take queue) = queue < processes
-
 -- the row of the table that the step is
 abbrev pub rowAt : Sizes → State → ℕ → Process → Stepped
-rowAt f s p r =
-    let q : ℕ = queueOf p (r .call) in
-    rowOf (f .width) (f .size) (queueAt (s .bench) q .word) (loaded (slotsAt s q) (loadedSlot (r .stage))) (r .stage)
+rowAt f s p r = stepping (f .width) (f .size) p r s
+
+pub act-is : (f : Sizes) (s : State) (p : ℕ) (r : Process) → act (f .width) (f .size) p r s ≡ acted p r s (rowAt f s p r)
+unfolding act
+act-is f s p r = refl
 
 -- all 0 at first, and every process idle
 pub record Fresh (f : Sizes) (s : State) : Type 0 where
@@ -90,7 +54,6 @@ pub record Fresh (f : Sizes) (s : State) : Type 0 where
   pub queue : (p : ℕ) → p < processes f → queueOf p (processAt (s .bench) p .call) < processes f
   pub begun : (p : ℕ) → processAt (s .bench) p .start ≤ s .bench .steps
   pub log : s .log ≡ []
-  pub going : s .bench .refused ≡ false
   pub gone : s .bench .gone ≡ 0
 
 module _ (f : Sizes) (h : Fit f) where
@@ -104,15 +67,6 @@ module _ (f : Sizes) (h : Fit f) where
         word = v .words q (k .queue);
         stage = k .stage;
       })
-
-  -- no step of such a state is refused
-  pub stepping-is : (s : State) → Sound f s → (p : ℕ) (r : Process) → Steps f s p r → stepping (f .width) (f .size) p r s ≡ rowAt f s p r
-  stepping-is s v p r k =
-      ap (λ (t : Bool). cond t (rowAt f s p r) (leaves (queueAt (s .bench) (queueOf p (r .call)) .word) next.Refused)) (placed-in-range s v p r (k .placed))
-
-  pub act-is : (s : State) → Sound f s → (p : ℕ) (r : Process) → Steps f s p r → act (f .width) (f .size) p r s ≡ acted p r s (rowAt f s p r)
-  unfolding act
-  act-is s v p r k = ap (acted p r s) (stepping-is s v p r k)
 
   -- who steps
   pub goes-on : (s : State) → Sound f s → (p : ℕ) → p < processes f → isIdle (processAt (s .bench) p .stage) ≡ false → Steps f s p (processAt (s .bench) p)
@@ -142,6 +96,21 @@ module _ (f : Sizes) (h : Fit f) where
     placed = record { stage = first-in c; suits = first-suits c; queue = queue-in p c lt ok };
     was = begins c z;
   }
+
+  -- the record with which a process makes its turn: idle with no call left, or in a call
+  module _ (calls : List Call) (all : AllIn (processes f) calls) (s : State) (v : Sound f s) (p : ℕ) (lt : p < processes f) where
+    pub turning-case : (Q : Process → Type 0) → (isIdle (processAt (s .bench) p .stage) ≡ true → Q (processAt (s .bench) p))
+        → ((r : Process) → Steps f s p r → Q r) → Q (turning calls p s)
+    turning-case Q i a = by (isIdle (processAt (s .bench) p .stage)) refl (ltb (processAt (s .bench) p .next) (processAt (s .bench) p .stop))
+      where
+        by : (t : Bool) → isIdle (processAt (s .bench) p .stage) ≡ t → (u : Bool)
+            → Q (cond (t && u) (begun (s .bench .steps) (getD calls (processAt (s .bench) p .next) Pop) (processAt (s .bench) p)) (processAt (s .bench) p))
+        by true z true = let k = processAt (s .bench) p .next in a _ (begins-call s p lt (idle-is _ z) (getD calls k Pop) (all k))
+        by true z false = i z
+        by false z u = a _ (goes-on s v p lt z)
+
+    pub turning-placed : Placed f p (turning calls p s)
+    turning-placed = turning-case (Placed f p) (λ _. v .each p lt) (λ r k. k .placed)
 
   -- the step keeps all
   module _ (s : State) (v : Sound f s) (p : ℕ) (r : Process) (k : Steps f s p r) where
@@ -181,7 +150,6 @@ module _ (f : Sizes) (h : Fit f) where
           (omega (arith, k .placed .queue, v .queues, h .processes)) (λ e. stays .word) (λ e. v .words j lt);
       sizes = λ j lt. if-set (λ (l : List ℕ). length l ≡ f .size) (s .slots) q j _ [] (omega (arith, k .placed .queue, v .tables, h .processes))
           (λ e. stored-length (slotsAt s q) (o .store) ∙ v .sizes q (k .placed .queue)) (λ e. v .sizes j lt);
-      going = rw (v .going) (no-refusal (f .width) (f .size) (queueAt (s .bench) q .word) (loaded (slotsAt s q) (loadedSlot (r .stage))) (r .stage));
       each = λ j lt. if-set (λ (x : Process). Placed f j x) (s .bench .processes) p j r′ nobody (omega (arith, k .below, v .records, h .processes))
           (λ e. rw e placed-after) (λ e. v .each j lt);
       later = λ j. if-set (λ (x : Process). isFirst (x .stage) ≡ false) (s .bench .processes) p j r′ nobody (omega (arith, k .below, v .records, h .processes))
@@ -200,11 +168,18 @@ module _ (f : Sizes) (h : Fit f) where
     tables = v .tables;
     words = v .words;
     sizes = v .sizes;
-    going = v .going;
     each = v .each;
     later = v .later;
     absent = v .absent;
   }
+
+  -- so every turn keeps it, whatever the calls are
+  pub sound-turn : (calls : List Call) → AllIn (processes f) calls → (s : State) → Sound f s → (p : ℕ) → p < processes f
+      → Sound f (turn (f .width) (f .size) calls p s)
+  unfolding turn turnAs act
+  sound-turn calls all s v p lt =
+      turning-case calls all s v p lt (λ (r : Process). Sound f (turnAs (f .width) (f .size) p s r))
+      (λ z. rw z (sound-idle s v)) (λ r k. rw (k .busy) (sound-act s v p r k))
 
   pub sound-fresh : (s : State) → Fresh f s → Sound f s
   sound-fresh s z = record {
@@ -215,7 +190,6 @@ module _ (f : Sizes) (h : Fit f) where
         (rw (getD-replicate 8 q fresh fresh (omega (arith, h .processes))) (record { bottom-in = omega arith; top-in = omega arith; tag-in = pow-pos (f .width) }));
     sizes = λ q lt. subst (λ (l : List (List ℕ)). length (getD l q []) ≡ f .size) (sym (z .slots))
         (rw (getD-replicate 8 q (replicate {A = ℕ} (f .size) 0) [] (omega (arith, h .processes))) (length-replicate {A = ℕ} (f .size) 0));
-    going = z .going;
     each = λ p lt. record {
       stage = subst (StageIn (f .width) (f .size)) (sym (z .idle p)) tt;
       suits = subst (Suits (processAt (s .bench) p .call)) (sym (z .idle p)) (record { own = λ e. never e; top = λ e. never e; push = λ e. never e });

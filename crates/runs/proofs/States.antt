@@ -20,7 +20,8 @@ use Rattle.runs.specs.Run.{play, lowest, close, closingSteps, closed}
 use Rattle.runs.specs.States.{scheduled, closing, StateOf, at-schedule, at-closing}
 use Rattle.runs.specs.State.{Process, State, processAt, start}
 use Rattle.runs.specs.Turn.{act, turn}
-use Rattle.runs.proofs.Sound.{Sound, Steps, act-is, goes-on}
+use Rattle.runs.proofs.Sound.{Steps, act-is, goes-on}
+use Rattle.runs.specs.inner.Sound.{Sound}
 use Rattle.runs.proofs.Reached.{Reached, begins, idles, acts, sound as any-sound}
 use Rattle.runs.proofs.Scripts.{sizesOf, fit, Scripted, Each, turn-case, each-act, each-start, start-fresh}
 
@@ -73,7 +74,7 @@ module _ (f : RunFile) (h : InRanges f) where
   got-act : (s : State) → StateOf f s → Got s → (p : ℕ) (r : Process) → Steps (sizesOf f) s p r → Scripted f p r → Got (act (f .width) (f .size) p r s)
   got-act s i g p r k c =
       let v = sound-of s g in
-      subst Got (sym (act-is (sizesOf f) (fit f h) s v p r k)) (acts s (g .0) p r k (c, i), each-act f h s v (g .1) p r k c)
+      subst Got (sym (act-is (sizesOf f) s p r)) (acts s (g .0) p r k (c, i), each-act f h s v (g .1) p r k c)
 
   close-case : (s : State) → StateOf f s → Got s → Got (closes (f .width) (f .size) s)
   close-case s i g =

@@ -12,15 +12,16 @@ use lib.Seq.{getD-set-same, getD-set-other, set-out}
 use Rattle.base.proofs.Cases.{either-way}
 use Rattle.word.specs.Stages.{isIdle, atB2}
 use Rattle.queue.specs.declared.Next.{Next}
-use Rattle.queue.specs.declared.Next.the-variants.{Going, Done, Node, Nil, Lost, Full, Refused}
+use Rattle.queue.specs.declared.Next.the-variants.{Going, Done, Node, Nil, Lost, Full}
 use Rattle.queue.specs.declared.Stepped.{Stepped}
 use Rattle.base.specs.Bytes.{byteAt, numberAt}
 use Rattle.base.proofs.Lists.{listOf-length, listOf-getD}
 use Rattle.runfile.specs.declared.Coded.{Coded}
 use Rattle.runfile.specs.File.{callPlace, callOf, callIn, callAt, firstCalls}
 use Rattle.runfile.specs.declared.Call.{Call}
-use Rattle.runfile.specs.declared.Call.the-variants.{Push, Pop, Take}
-use Rattle.runs.specs.inner.Counted.{aim, Aimed, Counted}
+use Rattle.runfile.specs.declared.Call.the-variants.{Pop}
+use Rattle.runs.specs.inner.Counted.{Counted}
+use Rattle.runs.specs.inner.Sound.{CallIn, AllIn}
 use Rattle.runs.specs.Moment.{isTake, queueOf, goneRound, Ended, Nothing, ends}
 use Rattle.runs.specs.State.{Bench, Process, Queue, State, fresh, nobody, queueAt, processAt}
 use Rattle.runs.specs.Turn.{ready, turning, processAfter, queueAfter, entriesIn, benchAfter, stepping, ending, act, idle, turnAs, turn}
@@ -37,7 +38,6 @@ gone-most r resets (Node x) = either-way (λ (n : ℕ). n ≤ 1) (isTake (r .cal
 gone-most r resets Nil = omega arith
 gone-most r resets Lost = omega arith
 gone-most r resets Full = omega arith
-gone-most r resets Refused = omega arith
 
 -- an element of a list with one element set
 pub got : {A : Type 0} (P : A → Type 0) (l : List A) (i : ℕ) (x d : A) → P x → ((j : ℕ) → P (getD l j d)) → (j : ℕ) → P (getD (set l i x) j d)
@@ -48,9 +48,9 @@ got P l i x d px pl j = split (ℕ-discrete j i) (decLt i (length l))
     split (yes e) (no h) = subst (λ (m : List _). P (getD m j d)) (sym (set-out l i x (omega arith))) (pl j)
     split (no e) h = subst P (sym (getD-set-other l i j x d e)) (pl j)
 
-pub counted-step : (m : ℕ) (b : Bench) (p q : ℕ) (r : Process) (o : Stepped) (over : Ended) → Counted m b → r .b2 ≤ b .steps → aim (r .call) < 8
+pub counted-step : (m : ℕ) (b : Bench) (p q : ℕ) (r : Process) (o : Stepped) (over : Ended) → Counted m b → r .b2 ≤ b .steps
     → Counted (m + length (entriesIn over)) (benchAfter b p q r o)
-counted-step m b p q r o over h k a = record {
+counted-step m b p q r o over h k = record {
   queues = length-set (b .queues) q (queueAfter (queueAt b q) o) ∙ h .queues;
   processes = length-set (b .processes) p (processAfter (b .steps) (queueAt b q .resets) r (o .next)) ∙ h .processes;
   logged = omega (arith, h .logged, entries-few over);
@@ -61,21 +61,20 @@ counted-step m b p q r o over h k a = record {
   b2 = got (λ (m : Process). m .b2 ≤ b .steps + 1) (b .processes) p (processAfter (b .steps) (queueAt b q .resets) r (o .next)) nobody
       (either-way (λ (n : ℕ). n ≤ b .steps + 1) (atB2 (r .stage)) (λ e. omega arith) (λ e. omega arith))
       (λ j. omega (arith, h .b2 j));
-  aims = got (λ (m : Process). aim (m .call) < 8) (b .processes) p (processAfter (b .steps) (queueAt b q .resets) r (o .next)) nobody a (h .aims);
 }
 
 -- the counts of a state, after n entries that were there before its log
 abbrev pub CountedAfter : ℕ → State → Type 0
 CountedAfter n s = Counted (n + length (s .log)) (s .bench)
 
-pub counted-act : (n W C p : ℕ) (r : Process) (s : State) → CountedAfter n s → r .b2 ≤ s .bench .steps → aim (r .call) < 8 → CountedAfter n (act W C p r s)
+pub counted-act : (n W C p : ℕ) (r : Process) (s : State) → CountedAfter n s → r .b2 ≤ s .bench .steps → CountedAfter n (act W C p r s)
 unfolding act
-counted-act n W C p r s h k a =
+counted-act n W C p r s h k =
     let o = stepping W C p r s in
     let over = ending p r (s .bench) (o .next) in
     let sum : n + length (s .log) + length (entriesIn over) ≡ n + length (s .log ++ entriesIn over) = omega (arith, length-append (s .log) (entriesIn over)) in
     subst (λ (m : ℕ). Counted m (benchAfter (s .bench) p (queueOf p (r .call)) r o)) sum
-    (counted-step (n + length (s .log)) (s .bench) p (queueOf p (r .call)) r o over h k a)
+    (counted-step (n + length (s .log)) (s .bench) p (queueOf p (r .call)) r o over h k)
 
 pub counted-idle : (n : ℕ) (s : State) → CountedAfter n s → CountedAfter n (idle s)
 counted-idle n s h = record {
@@ -85,7 +84,6 @@ counted-idle n s h = record {
   gone = omega (arith, h .gone);
   resets = λ q. omega (arith, h .resets q);
   b2 = λ p. omega (arith, h .b2 p);
-  aims = h .aims;
 }
 
 -- a call that is begun is below the end of its script
@@ -105,34 +103,25 @@ pub ready-b2 : (calls : List Call) (n : ℕ) (r : Process) → ready calls n r .
 ready-b2 calls n r = either-way (λ (x : Process). x .b2 ≡ r .b2) (isIdle (r .stage) && ltb (r .next) (r .stop)) (λ e. refl) (λ e. refl)
 
 -- the calls of a file are on its queues
-call-aim : (P code argument : ℕ) → P ≤ 8 → aim (callIn (callOf P code argument)) < 8
-call-aim P code argument h =
-    either-way on (eqb code 1) (λ e. either-way on (eqb argument 0) (λ d. omega arith) (λ d. omega arith))
-    (λ e. either-way on (eqb code 2) (λ d. either-way on (eqb argument 0) (λ i. omega arith) (λ i. omega arith))
-    (λ d. either-way on (eqb code 3) (λ i. either-way on (ltb argument P) (λ j. omega (arith, ltb-true argument P j)) (λ j. omega arith)) (λ i. omega arith)))
+call-in : (P code argument : ℕ) → CallIn P (callIn (callOf P code argument))
+call-in P code argument =
+    either-way on (eqb code 1) (λ e. either-way on (eqb argument 0) (λ d. tt) (λ d. tt))
+    (λ e. either-way on (eqb code 2) (λ d. either-way on (eqb argument 0) (λ i. tt) (λ i. tt))
+    (λ d. either-way on (eqb code 3) (λ i. either-way on (ltb argument P) (λ j. ltb-true argument P j) (λ j. tt)) (λ i. tt)))
   where
     on : Coded → Type 0
-    on c = aim (callIn c) < 8
+    on c = CallIn P (callIn c)
 
-pub calls-aimed : (file : List ℕ) (P n : ℕ) → P ≤ 8 → Aimed (firstCalls file P n)
-calls-aimed file P n h k = split (decLt k n)
+pub calls-in : (file : List ℕ) (P n : ℕ) → AllIn P (firstCalls file P n)
+calls-in file P n k = split (decLt k n)
   where
-    split : Dec (k < n) → aim (getD (firstCalls file P n) k Pop) < 8
-    split (yes l) = rw (call-there file P n k l) (call-aim P (byteAt file (callPlace P k)) (numberAt file (callPlace P k + 1)) h)
-    split (no l) = rw (past-calls file P n k (omega arith)) (omega arith)
+    split : Dec (k < n) → CallIn P (getD (firstCalls file P n) k Pop)
+    split (yes l) = rw (call-there file P n k l) (call-in P (byteAt file (callPlace P k)) (numberAt file (callPlace P k + 1)))
+    split (no l) = rw (past-calls file P n k (omega arith)) tt
 
-pub ready-aim : (calls : List Call) → Aimed calls → (n : ℕ) (r : Process) → aim (r .call) < 8 → aim (ready calls n r .call) < 8
-ready-aim calls aimed n r h = either-way (λ (x : Process). aim (x .call) < 8) (isIdle (r .stage) && ltb (r .next) (r .stop)) (λ e. aimed (r .next)) (λ e. h)
-
-pub on-queue : (p : ℕ) (c : Call) → p < 8 → aim c < 8 → queueOf p c < 8
-on-queue p (Push node) h k = h
-on-queue p Pop h k = h
-on-queue p (Take q) h k = k
-
-pub counted-turn : (n W C : ℕ) (calls : List Call) → Aimed calls → (p : ℕ) (s : State) → CountedAfter n s → CountedAfter n (turn W C calls p s)
+pub counted-turn : (n W C : ℕ) (calls : List Call) (p : ℕ) (s : State) → CountedAfter n s → CountedAfter n (turn W C calls p s)
 unfolding turn turnAs
-counted-turn n W C calls aimed p s h =
+counted-turn n W C calls p s h =
     let r = turning calls p s in
     either-way (CountedAfter n) (isIdle (r .stage)) (λ e. counted-idle n s h)
-    (λ e. counted-act n W C p r s h (omega (arith, h .b2 p, ready-b2 calls (s .bench .steps) (processAt (s .bench) p)))
-    (ready-aim calls aimed (s .bench .steps) (processAt (s .bench) p) (h .aims p)))
+    (λ e. counted-act n W C p r s h (omega (arith, h .b2 p, ready-b2 calls (s .bench .steps) (processAt (s .bench) p))))

@@ -8,7 +8,7 @@ use Rattle.log.specs.declared.What.{What}
 use Rattle.log.specs.declared.What.the-variants as what
 use Rattle.word.specs.Stages.{pastB2, popsSlot}
 use Rattle.queue.specs.declared.Next.{Next}
-use Rattle.queue.specs.declared.Next.the-variants.{Going, Done, Node, Nil, Lost, Full, Refused}
+use Rattle.queue.specs.declared.Next.the-variants.{Going, Done, Node, Nil, Lost, Full}
 use Rattle.runfile.specs.declared.Call.{Call}
 use Rattle.runfile.specs.declared.Call.the-variants.{Push, Pop, Take}
 use Rattle.runs.specs.State.{Process}
@@ -71,7 +71,6 @@ ended p n r owner t (Node x) = ends (nodeEntry p n r owner t x)
 ended p n r owner t Nil = ends (nilEntry p n r)
 ended p n r owner t Lost = ends (entry p n r what.TopLost 0 noMoment)
 ended p n r owner t Full = ends (entry p n r what.Full (pushedNode (r .call)) noMoment)
-ended p n r owner t Refused = Nothing
 
 -- gone-round takes of a step: a successful T4 whose queue was reset since its T1
 abbrev pub goneRound : Process → ℕ → Next → ℕ
@@ -81,4 +80,3 @@ goneRound r resets (Node x) = cond (isTake (r .call) && not (eqb (r .resetsAtT1)
 goneRound r resets Nil = 0
 goneRound r resets Lost = 0
 goneRound r resets Full = 0
-goneRound r resets Refused = 0

@@ -93,14 +93,10 @@ finished f s = record {
 abbrev pub roomFor : RunFile → ℕ
 roomFor f = logLength (length (f .calls))
 
--- 9 during the run: a step that is out of range
-abbrev pub ranAs : RunFile → State → Outcome
-ranAs f s = cond (s .bench .refused) (refusal 9) (finished f s)
-
 unfoldable pub outcome : ℕ → Answer → Outcome
 unfolding closed
 outcome room (refused n) = refusal n
-outcome room (good f) = cond (ltb room (roomFor f)) (refusal 8) (ranAs f (closed f))
+outcome room (good f) = cond (ltb room (roomFor f)) (refusal 8) (finished f (closed f))
 
 unfoldable pub runOf : List ℕ → ℕ → Outcome
 unfolding outcome fileOf

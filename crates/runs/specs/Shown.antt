@@ -51,7 +51,7 @@ EveryStepInRange = (f : RunFile) → InRanges f → (s : State) → StateOf f s 
     let q : ℕ = queueOf p (r .call) in
     inRange (f .width) (f .size) (length (getD (s .slots) q [])) (queueAt (s .bench) q .word) (r .stage) ≡ true
 
--- number 9 never arises
+-- so number 9 is no longer one that a run gives
 abbrev pub Never9 : Type 0
 Never9 = (file : List ℕ) → Bytes file → (room : ℕ) → runOf file room .number ≡ 9 → ⊥
 

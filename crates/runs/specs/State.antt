@@ -1,6 +1,5 @@
 -- The state of a run, and its start.
 use Prim.Native.Nat.{ℕ, suc}
-use mathlib.Core.Bool.{Bool, false}
 use mathlib.Core.List.{List, []}
 use lib.ListN.{getD, take, replicate}
 use Rattle.base.specs.Lists.{listOf}
@@ -33,13 +32,12 @@ pub record Process : Type 0 where
   pub b2 : ℕ
   pub resetsAtT1 : ℕ
 
--- queues and processes, the steps and the gone-round takes so far; `refused`: a step was out of range
+-- queues and processes, the steps and the gone-round takes so far
 pub record Bench : Type 0 where
   pub queues : List Queue
   pub processes : List Process
   pub steps : ℕ
   pub gone : ℕ
-  pub refused : Bool
 
 -- with the slots of each queue, and the log of finished calls
 pub record State : Type 0 where
@@ -74,7 +72,6 @@ startBench shares = record {
   processes = listOf queueCount (scripted shares);
   steps = 0;
   gone = 0;
-  refused = false;
 }
 
 abbrev pub start : RunFile → State

@@ -1,6 +1,6 @@
 -- One step of a run: document 01, "Steps of the queue", through the step of the crate `queue`.
 use Prim.Native.Nat.{ℕ, _+_}
-use mathlib.Core.Bool.{Bool, true, false, cond, _&&_, _||_}
+use mathlib.Core.Bool.{cond, _&&_}
 use mathlib.Core.List.{List, [], _∷_, _++_}
 use lib.Dec.{ltb}
 use lib.ListN.{getD, set}
@@ -8,7 +8,6 @@ use Rattle.log.specs.declared.Entry.{Entry}
 use Rattle.word.specs.Stages.{isIdle, atT1, atB2}
 use Rattle.queue.specs.Step.{stored, steppedOn, stageAfter}
 use Rattle.queue.specs.declared.Next.{Next}
-use Rattle.queue.specs.declared.Next.the-variants.{Going, Done, Node, Nil, Lost, Full, Refused}
 use Rattle.word.specs.declared.Stage.{Stage}
 use Rattle.word.specs.declared.Stage.the-variants.{P1, T1, B1}
 use Rattle.queue.specs.declared.Stepped.{Stepped}
@@ -53,15 +52,6 @@ processAfter n resets r next = record {
 abbrev pub queueAfter : Queue → Stepped → Queue
 queueAfter m o = record { word = o .word; resets = cond (o .reset) (m .resets + 1) (m .resets) }
 
-abbrev pub isRefused : Next → Bool
-isRefused (Going s) = false
-isRefused Done = false
-isRefused (Node x) = false
-isRefused Nil = false
-isRefused Lost = false
-isRefused Full = false
-isRefused Refused = true
-
 abbrev pub entriesIn : Ended → List Entry
 entriesIn Nothing = []
 entriesIn (ends e) = e ∷ []
@@ -73,7 +63,6 @@ benchAfter b p q r made = record {
   processes = set (b .processes) p (processAfter (b .steps) (queueAt b q .resets) r (made .next));
   steps = b .steps + 1;
   gone = b .gone + goneRound r (queueAt b q .resets) (made .next);
-  refused = b .refused || isRefused (made .next);
 }
 
 -- the step of the queue that process p, whose record is r, works on
@@ -108,7 +97,6 @@ idleStep b = record {
   processes = b .processes;
   steps = b .steps + 1;
   gone = b .gone;
-  refused = b .refused;
 }
 
 abbrev pub idle : State → State

@@ -1,2 +1,3 @@
 pub mod Counted
 pub mod Half
+pub mod Sound

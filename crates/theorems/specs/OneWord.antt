@@ -2,29 +2,33 @@
 -- the same three numbers.
 use Prim.Native.Nat.{ℕ, _<_}
 use mathlib.Core.Path.{_≡_}
+use mathlib.Core.Bool.{true}
 use mathlib.Core.List.{List}
 use lib.ListN.{length, take}
 use Rattle.word.specs.declared.Word.{Word}
 use Rattle.word.specs.declared.Stage.{Stage}
+use Rattle.range.specs.Range.{inRange}
 use Rattle.queue.specs.Step.{stored, steppedOn}
-use Rattle.queue.specs.Packed.{packed, packedWord, unpacked, unpackedStep, packedOn}
+use Rattle.queue.specs.Packed.{packed, packedWord, unpacked, unpackedStep, StepPacked}
 use Rattle.queue.specs.declared.Stepped.{Stepped}
 use Rattle.queue.specs.declared.PackedWord.{PackedWord}
 use Rattle.queue.specs.declared.PackedStep.{PackedStep}
 use Rattle.desk.specs.Desk.{answerOf, AtDesk}
 use Rattle.runs.specs.Promise.{Ran, HandsBack}
 
--- every step on a packed word, unpacked, is the table's step, and the word that it leaves is the packing of that step's age
+-- every step on a packed word, unpacked, is the table's step, and the word that it leaves is the packing of that step's age, where it is in range
 abbrev pub EveryStep : Type 0
-EveryStep = (W C : ℕ) (w : PackedWord) (slots : List ℕ) (s : Stage) → let o : Stepped = steppedOn W C (unpacked w) slots s in
-    (unpackedStep (packedOn W C w slots s) ≡ o) × (packedOn W C w slots s .word .age .word ≡ packed (o .word .top) (o .word .tag))
+EveryStep = (W C : ℕ) (w : PackedWord) (slots : List ℕ) (s : Stage) (answer : PackedStep) (after : List ℕ) → StepPacked W C w slots s answer after
+    → inRange W C (length slots) (unpacked w) s ≡ true → let o : Stepped = steppedOn W C (unpacked w) slots s in
+    (unpackedStep answer ≡ o) × (answer .word .age .word ≡ packed (o .word .top) (o .word .tag)) × (after ≡ stored slots (o .store))
 
 -- every run's log, counts and table are those of the definition, and so those of any other bench that keeps the promise, whatever its layout
 abbrev pub EveryRun : Type 0
 EveryRun = (file buffer : List ℕ) (w w′ : ℕ) (b b′ r r′ t t′ : List ℕ) → Ran file buffer w b r t → Ran file buffer w′ b′ r′ t′
     → HandsBack file (length buffer) (take w b) r t × (take w b ≡ take w′ b′) × (r ≡ r′) × (t ≡ t′)
 
--- a word of the desk's three numbers, packed, stepped and unpacked, is what the desk promises
+-- a word of the desk's three numbers, packed, stepped and unpacked, is what the desk promises in range
 abbrev pub DeskSame : Type 0
-DeskSame = (W C : ℕ) (w : Word) (slots : List ℕ) (s : Stage) → w .top < 65536 → let o : PackedStep = packedOn W C (packedWord w) slots s in
-    AtDesk W C w slots s (answerOf s (o .next)) (unpacked (o .word)) (stored slots (o .store))
+DeskSame = (W C : ℕ) (w : Word) (slots : List ℕ) (s : Stage) (answer : PackedStep) (after : List ℕ) → w .top < 65536
+    → StepPacked W C (packedWord w) slots s answer after → inRange W C (length slots) w s ≡ true
+    → AtDesk W C w slots s (answerOf (answer .next)) (unpacked (answer .word)) after

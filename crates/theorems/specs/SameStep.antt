@@ -1,11 +1,13 @@
 -- The run's step and the desk's are the same: both are `steppedOn`, on the queue's word and slots and the process's stage.
 use Prim.Native.Nat.{ℕ, _<_}
 use mathlib.Core.Path.{_≡_}
+use mathlib.Core.Bool.{true}
 use mathlib.Core.Logic.{_⊎_}
 use mathlib.Core.List.{List, [], _∷_}
 use lib.ListN.{length, getD}
 use Rattle.word.specs.declared.Stage.{Stage}
 use Rattle.word.specs.declared.Word.{Word}
+use Rattle.range.specs.Range.{inRange}
 use Rattle.queue.specs.Step.{stored, steppedOn, stageAfter}
 use Rattle.queue.specs.declared.Next.{Next}
 use Rattle.queue.specs.declared.Stepped.{Stepped}
@@ -26,10 +28,11 @@ RunSteps = (W C p : ℕ) (r : Process) (s : State) → let q : ℕ = queueOf p (
     p < length (s .bench .processes) → q < length (s .bench .queues) → q < length (s .slots)
     → SameStep W C p r s (steppedOn W C (queueAt (s .bench) q .word) (getD (s .slots) q []) (r .stage))
 
--- the desk's promise, on that word, these slots and that stage, is of the same step
+-- the desk's promise, on that word, these slots and that stage, is of the same step, where it is in range: in a run every step is (`every-step-in-range`)
 abbrev pub DeskSteps : Type 0
 DeskSteps = (W C : ℕ) (w : Word) (slots : List ℕ) (z : Stage) (answer : Answer) (word : Word) (after : List ℕ) → AtDesk W C w slots z answer word after
-    → let o : Stepped = steppedOn W C w slots z in (answer ≡ answerOf z (o .next)) × (word ≡ o .word) × (after ≡ stored slots (o .store))
+    → inRange W C (length slots) w z ≡ true
+    → let o : Stepped = steppedOn W C w slots z in (answer ≡ answerOf (o .next)) × (word ≡ o .word) × (after ≡ stored slots (o .store))
 
 -- the result at the desk, and the node of a pop, are those of the entry that a run's step writes
 abbrev pub Tells : List ℕ → Ended → Type 0
@@ -37,4 +40,4 @@ Tells result Nothing = result ≡ []
 Tells result (ends e) = (result ≡ e .result ∷ []) ⊎ (result ≡ e .result ∷ e .node ∷ [])
 
 abbrev pub SameResult : Type 0
-SameResult = (p n : ℕ) (r owner : Process) (t : ℕ) (z : Stage) (x : Next) → Tells (resultOf (answerOf z x)) (ended p n r owner t x)
+SameResult = (p n : ℕ) (r owner : Process) (t : ℕ) (x : Next) → Tells (resultOf (answerOf x)) (ended p n r owner t x)

@@ -22,11 +22,16 @@ tags W h = shl-exact 1 W 16 (omega arith) (omega arith) ∙ one-mul (2 ^ W)
 pub tags-pos : (W : ℕ) → W < 16 → 0 < (1 * 2 ^ W) % 2 ^ 16
 tags-pos W h = rw (tags W h) (pow-pos W)
 
-pub next-narrow : (W g up : ℕ) → W < 16 → up ≡ (g + 1) % 2 ^ 16 → up % ((1 * 2 ^ W) % 2 ^ 16) ≡ nextTag W g
-next-narrow W g up h e = rw (tags W h, e) (goes-round W (g + 1) (omega arith))
+-- the next tag, of 16 bits, whatever the width
+pub next-narrow : (W g up : ℕ) → W < 16 → up ≡ (g + 1) % 2 ^ 16 → up % ((1 * 2 ^ W) % 2 ^ 16) ≡ nextTag W g % 65536
+next-narrow W g up h e =
+    let d : nextTag W g % 65536 ≡ nextTag W g = mod-eq-of-lt (omega (arith, mod-lt (g + 1) (pow-pos W), pow-lt h)) in
+    rw (tags W h, e, d) (goes-round W (g + 1) (omega arith))
 
-pub next-wide : (W g up : ℕ) → W ≤ 16 → 16 ≤ W → up ≡ (g + 1) % 2 ^ 16 → up ≡ nextTag W g
-next-wide W g up h k e = let w : W ≡ 16 = omega arith in rw w e
+pub next-wide : (W g up : ℕ) → 16 ≤ W → up ≡ (g + 1) % 2 ^ 16 → up ≡ nextTag W g % 65536
+next-wide W g up h e =
+    let d : W - 16 + 16 ≡ W = omega arith in
+    e ∙ sym (rw d at (mod-mod-pow (g + 1) (W - 16) 16))
 
 pub tag-wide : (W g : ℕ) → 16 ≤ W → g < 2 ^ 16 → true ≡ isTag W g
 tag-wide W g h k = elim (decLt 16 W) [

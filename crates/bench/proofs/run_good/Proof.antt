@@ -1,44 +1,29 @@
 -- `run_good` meets its contract.
-use Prim.Native.Nat.{ℕ}
-use mathlib.Core.Path.{refl}
-use lib.ListN.{length-replicate}
 use native.Mathlib.Omega.{arith}
 use borrow.Author.Needs.{needs}
-use Rattle.bench.proofs.GoodLaws.{refusal-gives, gives-8, gives-9, gives-0, schedule-fits, to-play, to-close, ends}
+use Rattle.bench.proofs.GoodLaws.{refusal-gives, gives-8, gives-0, schedule-fits, to-play, to-close, ends}
 use Rattle.bench.proofs.run_good.Statement.{statement}
 use Rattle.bench.proofs.run_good.Tie as tie
 
 returns : tie.Need-returns
 returns c = refusal-gives _ 8 _ _ _ _ (gives-8 (c .before .before .before .before .before .before .before .args .file .now) (λ i. c .before .before .before .before .before .before .shared-slice-known .given i .fits) (c .before .before .before .before .before .before .before .args .shape) (c .before .before .before .before .before .before .before .pre) (c .before .before .before .before .before .before .before .args .buffer .now) (c .before .before .before .if1 .taken)) (c .refuse .ensures)
 
-part-play-start : tie.Need-part-play-start
-part-play-start c = omega (arith, schedule-fits (c .before .before .before .before .before .before .before .args .file .now) (λ i. c .before .before .before .before .before .before .shared-slice-known .given i .fits) (c .before .before .before .before .before .before .before .args .shape) (c .before .before .before .before .before .before .before .pre) _ (c .before .schedule-place .ensures .0))
-
 part-play-end : tie.Need-part-play-end
 part-play-end c = omega (arith, schedule-fits (c .before .before .before .before .before .before .before .args .file .now) (λ i. c .before .before .before .before .before .before .shared-slice-known .given i .fits) (c .before .before .before .before .before .before .before .args .shape) (c .before .before .before .before .before .before .before .pre) _ (c .before .schedule-place .ensures .0))
 
 play-requires : tie.Need-play-requires
-play-requires c κs = to-play (c .before .before .before .before .before .before .before .before .before .before .args .file .now) (λ i. c .before .before .before .before .before .before .before .before .before .shared-slice-known .given i .fits) (c .before .before .before .before .before .before .before .before .before .before .args .shape) (c .before .before .before .before .before .before .before .before .before .before .pre) _ (c .before .before .before .before .schedule-place .ensures .0) (c .before .before .before .before .before .start .result) (c .before .before .before .before .before .start .ensures) _ refl
+play-requires c κs = to-play (c .before .before .before .before .before .before .before .before .before .before .args .file .now) (λ i. c .before .before .before .before .before .before .before .before .before .shared-slice-known .given i .fits) (c .before .before .before .before .before .before .before .before .before .before .args .shape) (c .before .before .before .before .before .before .before .before .before .before .pre) _ (c .before .before .before .before .schedule-place .ensures .0) (c .before .before .before .before .before .start .result) (c .before .before .before .before .before .start .ensures)
 
 close-requires : tie.Need-close-requires
-close-requires c κs = to-close (c .before .before .before .before .before .before .before .before .before .before .before .before .before .before .before .args .file .now) (λ i. c .before .before .before .before .before .before .before .before .before .before .before .before .before .before .shared-slice-known .given i .fits) (c .before .before .before .before .before .before .before .before .before .before .before .before .before .before .before .args .shape) (c .before .before .before .before .before .before .before .before .before .before .before .before .before .before .before .pre) _ (c .before .before .before .before .before .before .before .before .before .schedule-place .ensures .0) (c .before .before .before .before .before .before .before .before .before .before .start .result) (c .before .before .before .before .before .before .before .before .before .before .start .ensures) _ _ _ _ (c .before .before .before .before .play .ensures) (search needs)
+close-requires c κs = to-close (c .before .before .before .before .before .before .before .before .before .before .before .before .before .before .before .before .args .file .now) (λ i. c .before .before .before .before .before .before .before .before .before .before .before .before .before .before .before .shared-slice-known .given i .fits) (c .before .before .before .before .before .before .before .before .before .before .before .before .before .before .before .before .args .shape) (c .before .before .before .before .before .before .before .before .before .before .before .before .before .before .before .before .pre) _ (c .before .before .before .before .before .before .before .before .before .before .schedule-place .ensures .0) (c .before .before .before .before .before .before .before .before .before .before .before .start .result) (c .before .before .before .before .before .before .before .before .before .before .before .start .ensures) _ _ _ _ (c .before .before .before .before .before .play .ensures) (search needs)
+
+finish-requires : tie.Need-finish-requires
+finish-requires c κs = ends (c .before .before .before .before .before .before .before .before .before .before .before .before .before .before .before .before .before .before .before .before .before .before .before .before .args .file .now) (λ i. c .before .before .before .before .before .before .before .before .before .before .before .before .before .before .before .before .before .before .before .before .before .before .before .shared-slice-known .given i .fits) (c .before .before .before .before .before .before .before .before .before .before .before .before .before .before .before .before .before .before .before .before .before .before .before .before .args .shape) (c .before .before .before .before .before .before .before .before .before .before .before .before .before .before .before .before .before .before .before .before .before .before .before .before .pre) _ (c .before .before .before .before .before .before .before .before .before .before .before .before .before .before .before .before .before .before .schedule-place .ensures .0) (c .before .before .before .before .before .before .before .before .before .before .before .before .before .before .before .before .before .before .before .start .result) (c .before .before .before .before .before .before .before .before .before .before .before .before .before .before .before .before .before .before .before .start .ensures) _ _ _ _ (c .before .before .before .before .before .before .before .before .before .before .before .before .before .play .ensures) _ _ _ (c .before .before .before .before .before .before .before .close .ensures) (search needs)
 
 returns-2 : tie.Need-returns-2
 returns-2 c =
-    refusal-gives _ 9 _ _ _ _
-    (gives-9 (c .before .before .before .before .before .before .before .before .before .before .before .before .before .before .before .before .before .before .before .before .before .before .args .file .now) (λ i. c .before .before .before .before .before .before .before .before .before .before .before .before .before .before .before .before .before .before .before .before .before .shared-slice-known .given i .fits) (c .before .before .before .before .before .before .before .before .before .before .before .before .before .before .before .before .before .before .before .before .before .before .args .shape) (c .before .before .before .before .before .before .before .before .before .before .before .before .before .before .before .before .before .before .before .before .before .before .pre) _ (c .before .before .before .before .before .before .before .before .before .before .before .before .before .before .before .before .schedule-place .ensures .0) (c .before .before .before .before .before .before .before .before .before .before .before .before .before .before .before .before .before .start .result) (c .before .before .before .before .before .before .before .before .before .before .before .before .before .before .before .before .before .start .ensures) _ _ _ _ (c .before .before .before .before .before .before .before .before .before .before .before .play .ensures) _ _ _ (c .before .before .before .before .before .before .close .ensures)
-    (c .before .before .before .before .before .before .before .before .before .before .before .before .before .before .before .before .before .before .before .before .before .before .args .buffer .now) (c .before .before .before .before .before .before .before .before .before .before .before .before .before .before .before .before .before .before .if1 .left) (c .before .before .before .if2 .taken))
-    (c .refuse2 .ensures)
-
-finish-requires : tie.Need-finish-requires
-finish-requires c κs =
-    ends (c .before .before .before .before .before .before .before .before .before .before .before .before .before .before .before .before .before .before .before .before .before .before .before .before .args .file .now) (λ i. c .before .before .before .before .before .before .before .before .before .before .before .before .before .before .before .before .before .before .before .before .before .before .before .shared-slice-known .given i .fits) (c .before .before .before .before .before .before .before .before .before .before .before .before .before .before .before .before .before .before .before .before .before .before .before .before .args .shape) (c .before .before .before .before .before .before .before .before .before .before .before .before .before .before .before .before .before .before .before .before .before .before .before .before .pre) _ (c .before .before .before .before .before .before .before .before .before .before .before .before .before .before .before .before .before .before .schedule-place .ensures .0) (c .before .before .before .before .before .before .before .before .before .before .before .before .before .before .before .before .before .before .before .start .result) (c .before .before .before .before .before .before .before .before .before .before .before .before .before .before .before .before .before .before .before .start .ensures) _ _ _ _ (c .before .before .before .before .before .before .before .before .before .before .before .before .before .play .ensures) _ _ _ (c .before .before .before .before .before .before .before .before .close .ensures)
-    (c .before .before .before .before .before .before .before .before .before .before .before .before .before .before .before .before .before .before .before .before .before .before .before .before .args .buffer .now) (search needs) (search needs) (c .before .before .before .before .before .before .before .before .before .before .before .before .before .before .before .before .before .before .before .before .if1 .left)
-
-returns-3 : tie.Need-returns-3
-returns-3 c =
-    gives-0 (c .before .before .before .before .before .before .before .before .before .before .before .before .before .before .before .before .before .before .before .before .before .before .before .before .before .before .before .before .args .file .now) (λ i. c .before .before .before .before .before .before .before .before .before .before .before .before .before .before .before .before .before .before .before .before .before .before .before .before .before .before .before .shared-slice-known .given i .fits) (c .before .before .before .before .before .before .before .before .before .before .before .before .before .before .before .before .before .before .before .before .before .before .before .before .before .before .before .before .args .shape) (c .before .before .before .before .before .before .before .before .before .before .before .before .before .before .before .before .before .before .before .before .before .before .before .before .before .before .before .before .pre) _ (c .before .before .before .before .before .before .before .before .before .before .before .before .before .before .before .before .before .before .before .before .before .before .schedule-place .ensures .0) (c .before .before .before .before .before .before .before .before .before .before .before .before .before .before .before .before .before .before .before .before .before .before .before .start .result) (c .before .before .before .before .before .before .before .before .before .before .before .before .before .before .before .before .before .before .before .before .before .before .before .start .ensures) _ _ _ _ (c .before .before .before .before .before .before .before .before .before .before .before .before .before .before .before .before .before .play .ensures) _ _ _ (c .before .before .before .before .before .before .before .before .before .before .before .before .close .ensures)
-    (c .before .before .before .before .before .before .before .before .before .before .before .before .before .before .before .before .before .before .before .before .before .before .before .before .before .before .before .before .args .buffer .now) _ _ _ _ (c .before .before .before .before .before .before .before .before .before .before .before .before .before .before .before .before .before .before .before .before .before .before .before .before .if1 .left) (omega (arith, length-replicate {A = ℕ} 3077 0)) (c .before .before .before .before .before .before .before .before .before .if2 .left) (c .before .before .before .finish .ensures)
+    gives-0 (c .before .before .before .before .before .before .before .before .before .before .before .before .before .before .before .before .before .before .before .before .before .before .before .before .before .before .before .args .file .now) (λ i. c .before .before .before .before .before .before .before .before .before .before .before .before .before .before .before .before .before .before .before .before .before .before .before .before .before .before .shared-slice-known .given i .fits) (c .before .before .before .before .before .before .before .before .before .before .before .before .before .before .before .before .before .before .before .before .before .before .before .before .before .before .before .args .shape) (c .before .before .before .before .before .before .before .before .before .before .before .before .before .before .before .before .before .before .before .before .before .before .before .before .before .before .before .pre) _ (c .before .before .before .before .before .before .before .before .before .before .before .before .before .before .before .before .before .before .before .before .before .schedule-place .ensures .0) (c .before .before .before .before .before .before .before .before .before .before .before .before .before .before .before .before .before .before .before .before .before .before .start .result) (c .before .before .before .before .before .before .before .before .before .before .before .before .before .before .before .before .before .before .before .before .before .before .start .ensures) _ _ _ _ (c .before .before .before .before .before .before .before .before .before .before .before .before .before .before .before .before .play .ensures) _ _ _ (c .before .before .before .before .before .before .before .before .before .before .close .ensures)
+    _ _ _ _ (c .before .before .before .before .before .before .before .before .before .before .before .before .before .before .before .before .before .before .before .before .before .before .before .if1 .left) (c .before .before .finish .ensures)
 
 pub run-good-spec : {M : Type 1} → statement M
 run-good-spec =
@@ -53,19 +38,14 @@ run-good-spec =
     (λ c κs. search needs)
     (λ c. search needs)
     (λ c. search needs)
-    (λ c. omega arith)
-    part-play-start
-    part-play-end
     (λ c. search needs)
+    (λ c. search needs)
+    part-play-end
     (λ c. search needs)
     play-requires
     (λ c. search needs)
-    (λ c. search needs)
     close-requires
-    (λ c κs. search needs)
-    returns-2
-    (λ c. search needs)
     (λ c. search needs)
     finish-requires
     (λ c. search needs)
-    returns-3)
+    returns-2)

@@ -2,7 +2,6 @@
 -- its bytes.
 use Prim.Native.Nat.{ℕ, suc, _+_, _*_, _≤_, _<_}
 use mathlib.Core.Path.{_≡_}
-use mathlib.Core.Bool.{_||_}
 use mathlib.Core.List.{List, [], _∷_, map}
 use lib.ListN.{length, getD, take, drop, set}
 use Rattle.base.specs.Bytes.{putAt}
@@ -10,8 +9,8 @@ use Rattle.base.specs.Lists.{listOf}
 use Rattle.log.specs.Decode.{logLength}
 use Rattle.log.specs.Encode.{entryBytes}
 use Rattle.log.specs.declared.Entry.{Entry}
-use Rattle.queue.specs.Step.{stored}
-use Rattle.queue.specs.Packed.{unpacked, unpackedStep, topOf, packedOn}
+use Rattle.queue.specs.Step.{stored, inSixteen, steppedOn}
+use Rattle.queue.specs.Packed.{unpacked, unpackedStep, topOf}
 use Rattle.queue.specs.declared.PackedStep.{PackedStep}
 use Rattle.queue.specs.declared.PackedWord.{PackedWord}
 use Rattle.word.specs.declared.Stage.{Stage}
@@ -21,7 +20,8 @@ use Rattle.runfile.specs.declared.Shape.{Shape}
 use Rattle.runs.specs.State.{Queue, Process, Bench, State, queueCount}
 use Rattle.runs.specs.Moment.{queueOf, Ended, Nothing, ends, ended, goneRound}
 use Rattle.runs.specs.inner.Counted.{Counted}
-use Rattle.runs.specs.Turn.{queueAfter, processAfter, isRefused, entriesIn}
+use Rattle.runs.specs.inner.Sound.{Sizes, Fit, Sound}
+use Rattle.runs.specs.Turn.{queueAfter, processAfter, entriesIn}
 use Rattle.bench.specs.declared.Bench.{Bench as HeldBench}
 use Rattle.bench.specs.declared.Ended.{Ended as HeldEnded}
 use Rattle.bench.specs.declared.Ended.the-variants as held
@@ -53,7 +53,7 @@ endedIn held.Nothing = Nothing
 endedIn (held.Call e) = ends e
 
 abbrev pub benchIn : HeldBench → Bench
-benchIn b = record { queues = map queueIn (b .queues); processes = map processIn (b .processes); steps = b .steps; gone = b .gone; refused = b .refused }
+benchIn b = record { queues = map queueIn (b .queues); processes = map processIn (b .processes); steps = b .steps; gone = b .gone }
 
 -- the row of all slots has room for eight queues of the greatest C
 abbrev pub allSlots : ℕ
@@ -72,7 +72,7 @@ stateIn C b flat = record { bench = benchIn b; slots = slotsIn C flat; log = [] 
 
 -- the step of queue q on its slots in the row
 pub record StepsIn (W C : ℕ) (w : PackedWord) (flat : List ℕ) (q : ℕ) (z : Stage) (answer : PackedStep) (flat′ : List ℕ) : Type 0 where
-  pub stepped : answer ≡ packedOn W C w (getD (slotsIn C flat) q []) z
+  pub stepped : unpackedStep answer ≡ inSixteen (steppedOn W C (unpacked w) (getD (slotsIn C flat) q []) z)
   pub slots : slotsIn C flat′ ≡ set (slotsIn C flat) q (stored (getD (slotsIn C flat) q []) (answer .store))
 
 -- the bytes of a log with entries put in from entry n on
@@ -87,21 +87,24 @@ pub record Becomes (C n : ℕ) (log : List ℕ) (s : State) (b′ : HeldBench) (
   pub slots : slotsIn C flat′ ≡ s .slots
   pub bytes : log′ ≡ putEntries n (s .log) log
 
--- where the loop over a schedule begins, and where the closing does
+abbrev pub sizesIn : Shape → Sizes
+sizesIn shape = record { width = shape .width; size = shape .size; processes = shape .processes }
+
+-- where the loop over a schedule begins, and where the closing does: at a state in which all is in range
 pub record ToPlay (shape : Shape) (schedule : List ℕ) (b : HeldBench) (flat : List ℕ) : Type 0 where
   pub counted : Counted (b .entries) (benchIn b)
   pub few : b .steps + length schedule ≤ 4144
   pub all-slots : length flat ≡ allSlots
-  pub size : shape .size ≤ mostSize
-  pub processes : shape .processes ≤ 8
-  pub below : (k : ℕ) → k < length schedule → getD schedule k 0 < 8
+  pub fit : Fit (sizesIn shape)
+  pub sound : Sound (sizesIn shape) (stateIn (shape .size) b flat)
+  pub below : (k : ℕ) → k < length schedule → getD schedule k 0 < shape .processes
 
 pub record ToClose (shape : Shape) (b : HeldBench) (flat : List ℕ) : Type 0 where
   pub counted : Counted (b .entries) (benchIn b)
   pub few : b .steps ≤ 4096
   pub all-slots : length flat ≡ allSlots
-  pub size : shape .size ≤ mostSize
-  pub processes : shape .processes ≤ 8
+  pub fit : Fit (sizesIn shape)
+  pub sound : Sound (sizesIn shape) (stateIn (shape .size) b flat)
 
 -- what step n of process p changes: r, before and owner are the records of the process, of its call's queue and of the queue's owner
 pub record Moves (W C p n entries : ℕ) (r : Process) (before : HeldQueue) (owner : Process) (flat log : List ℕ) (m : Moved) (flat′ log′ : List ℕ) : Type 0 where
@@ -114,7 +117,6 @@ pub record Moves (W C p n entries : ℕ) (r : Process) (before : HeldQueue) (own
   pub process : processIn (m .process) ≡ processAfter n (before .resets) r (step .next)
   pub more : m .more ≡ length (entriesIn over)
   pub gone : m .gone ≡ goneRound r (before .resets) (step .next)
-  pub refused : m .refused ≡ isRefused (step .next)
 
 -- the bench with what a step of process p on queue q changes
 abbrev pub movedBench : HeldBench → ℕ → ℕ → Moved → HeldBench
@@ -124,5 +126,4 @@ movedBench b p q m = record {
   entries = b .entries + m .more;
   steps = b .steps + 1;
   gone = b .gone + m .gone;
-  refused = b .refused || m .refused;
 }

@@ -9,14 +9,10 @@ returns c = rw (c .before .next .given .1)
 returns-3 : tie.Need-returns-3
 returns-3 c = rw (c .before .next2 .given .1)
 
-returns-7 : tie.Need-returns-7
-returns-7 c = rw (c .enum-told5 .given .1)
-
 pub answer-of-spec : {M : Type 1} → statement M
 answer-of-spec =
     tie.close
     (tie.spec
-    (λ c. search needs)
     (λ c. search needs)
     (λ c. search needs)
     (λ c. search needs)
@@ -28,5 +24,4 @@ answer-of-spec =
     returns-3
     (λ c. search needs)
     (λ c. search needs)
-    (λ c. search needs)
-    returns-7)
+    (λ c. search needs))

@@ -1,19 +1,22 @@
 -- Top and tag in one word: the three theorems.
-use mathlib.Core.Path.{refl, sym, ap, _∙_}
-use Rattle.queue.specs.Step.{stored}
-use Rattle.queue.specs.Packed.{packed, packedWord, unpackedStep, packedOn}
+use mathlib.Core.Path.{refl, ap, _∙_}
+use lib.ListN.{length}
+use Rattle.range.proofs.RangeLaws.{in-range}
+use Rattle.queue.specs.Step.{loaded, loadedSlot}
+use Rattle.queue.specs.Packed.{packed, packedWord, unpacked, unpackedStep}
 use Rattle.queue.specs.declared.Stepped.{Stepped}
-use Rattle.queue.specs.declared.PackedStep.{PackedStep}
-use Rattle.queue.proofs.PackedLaws.{packed-again, step-unpacks, packed-is, on-three}
+use Rattle.queue.proofs.StepLaws.{sixteen-in}
+use Rattle.queue.proofs.PackedLaws.{on-three}
+use Rattle.desk.specs.Desk.{answerOf}
 use Rattle.desk.proofs.DeskLaws.{at-desk}
 use Rattle.base.proofs.Settled.{one-value}
 use Rattle.theorems.specs.OneWord.{EveryStep, EveryRun, DeskSame}
 use Rattle.theorems.proofs.programs.ShutOut.{front-handed-back}
 
 pub every-step : EveryStep
-every-step W C w slots s =
-    let e = step-unpacks W C w slots s in
-    (e, sym (packed-again (packedOn W C w slots s .word .age .word)) ∙ ap (λ (o : Stepped). packed (o .word .top) (o .word .tag)) e)
+every-step W C w slots s answer after h e =
+    let d = sixteen-in W C (length slots) (unpacked w) (loaded slots (loadedSlot s)) s (in-range W C (length slots) (unpacked w) s e) in
+    (h .unpacks .stepped ∙ d, h .aged ∙ ap (λ (o : Stepped). packed (o .word .top) (o .word .tag)) d, h .unpacks .kept)
 
 pub every-run : EveryRun
 every-run file buffer w w′ b b′ r r′ t t′ p q =
@@ -22,6 +25,6 @@ every-run file buffer w w′ b b′ r r′ t t′ p q =
     (d, one-value (d .part) (k .part), one-value (d .counts) (k .counts), one-value (d .queues) (k .queues))
 
 pub desk-same : DeskSame
-desk-same W C w slots s h =
-    let o : PackedStep = packedOn W C (packedWord w) slots s in
-    at-desk (on-three W C w slots s (packedWord w) o (unpackedStep o) (stored slots (o .store)) h refl (packed-is W C (packedWord w) slots s o (stored slots (o .store)) refl refl) refl) refl
+desk-same W C w slots s answer after h d e =
+    at-desk W C w slots s after (unpackedStep answer) (answerOf (answer .next)) e
+    (on-three W C w slots s (packedWord w) answer (unpackedStep answer) after h refl d refl) refl

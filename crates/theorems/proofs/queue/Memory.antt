@@ -17,8 +17,7 @@ use Rattle.runfile.specs.declared.Call.{Call}
 use Rattle.runfile.specs.declared.Call.the-variants.{Push, Pop, Take}
 use Rattle.runs.specs.Turn.{firstStage, entriesIn}
 use Rattle.base.proofs.Cases.{never}
-use Rattle.runs.proofs.KindLaws.{isOwn}
-use Rattle.runs.proofs.Sound.{slotsAt}
+use Rattle.runs.specs.inner.Sound.{isOwn, slotsAt}
 
 pub record Memory : Type 0 where
   pub word : Word

@@ -29,7 +29,7 @@ use Rattle.runs.specs.State.{Process}
 use Rattle.runs.specs.Moment.{queueOf, pushedNode, isTake, entry, ended}
 use Rattle.rules.specs.Contents.{bears, dropLast, applied}
 use Rattle.theorems.proofs.queue.Cases.{if-age}
-use Rattle.runs.proofs.KindLaws.{isOwn, isPush}
+use Rattle.runs.specs.inner.Sound.{isOwn, isPush}
 use Rattle.base.proofs.Lists.{all-snoc}
 use Rattle.theorems.proofs.queue.Lists.{drop-last, slice-none, slice-snoc, one-node}
 use Rattle.theorems.proofs.queue.Content.{Free, event-free, isAt, content, still-from, add-none, add-past, add-at, swap, pend-past, pend-at}

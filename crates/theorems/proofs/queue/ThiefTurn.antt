@@ -26,7 +26,7 @@ use Rattle.runs.specs.Moment.{queueOf, isTake, entry, takeMoment, ended, goneRo
 use Rattle.rules.specs.Contents.{bears, dropFirst, applied}
 use Rattle.base.proofs.Cases.{never, ever, if-le}
 use Rattle.theorems.proofs.queue.Cases.{if-age, top-nil}
-use Rattle.runs.proofs.KindLaws.{isTop}
+use Rattle.runs.specs.inner.Sound.{isTop}
 use Rattle.base.proofs.Lists.{in-last, in-snoc}
 use Rattle.theorems.proofs.queue.Lists.{slice-none}
 use Rattle.theorems.proofs.queue.Content.{isAt, turn, content, content-suc, add-none, add-past, swap}

@@ -26,8 +26,9 @@ use Rattle.runs.specs.State.{Process, State, queueAt, processAt}
 use Rattle.runs.specs.Turn.{firstStage, begun, processAfter, ending, acted}
 use Rattle.base.proofs.Bools.{and-1, not-so, or-l}
 use Rattle.base.proofs.Cases.{never, ever}
-use Rattle.runs.proofs.KindLaws.{isPush, isTop, isOwn, Within, within, first-quiet, own-queue, whose, Gives, gives}
-use Rattle.runs.proofs.Sound.{Sizes, Fit, processes, slotsAt, Sound, Was, goes, begins, Steps, rowAt}
+use Rattle.runs.proofs.KindLaws.{Within, within, first-quiet, own-queue, whose, Gives, gives}
+use Rattle.runs.specs.inner.Sound.{isPush, isTop, isOwn, Sizes, Fit, processes, slotsAt, Sound}
+use Rattle.runs.proofs.Sound.{Was, goes, begins, Steps, rowAt}
 use Rattle.base.specs.Lists.{All}
 use Rattle.base.proofs.Lists.{all-snoc, all-map}
 use Rattle.theorems.proofs.queue.Memory.{Memory, memoryAt, memoryAfter, asOwner, as-popped, lim, first-lim, logAfter}
@@ -182,7 +183,6 @@ module _ (f : Sizes) (w : Fit f) (s : State) (v : Sound f s) (h : Inv f s) (p : 
       kept next.Nil e = ever e
       kept next.Lost e = ever e
       kept next.Full e = ever e
-      kept next.Refused e = ever e
 
   -- rule 1 of a new entry
   push-owns : isPush (r .stage) ≡ true → queueOf p (r .call) ≡ p
@@ -208,7 +208,6 @@ module _ (f : Sizes) (w : Fit f) (s : State) (v : Sound f s) (h : Inv f s) (p : 
   written-after next.Nil g = all-snoc _ (s .log) _ (h .written) (nil-written (isTake (r .call)) refl)
   written-after next.Lost g = all-snoc _ (s .log) _ (h .written) (wrote TopLost 0 noMoment (refl, refl))
   written-after next.Full g = all-snoc _ (s .log) _ (h .written) (wrote Full (pushedNode (r .call)) noMoment (push-owns g, refl))
-  written-after next.Refused g = h .written
 
   written : All (Written (processes f)) l′
   written = written-after (o .next) (gives (f .width) (f .size) (queueAt (s .bench) q .word) (loaded (slotsAt s q) (loadedSlot (r .stage))) (r .stage))

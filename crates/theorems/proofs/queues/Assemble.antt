@@ -9,13 +9,13 @@ use lib.ListN.{getD, set}
 use Rattle.log.specs.declared.Entry.{Entry}
 use Rattle.word.specs.Stages.{pastB2}
 use Rattle.queue.specs.Step.{stored}
-use Rattle.queue.specs.declared.Next.the-variants as next
 use Rattle.queue.specs.declared.Stepped.{Stepped}
 use Rattle.runs.specs.Moment.{queueOf, ended}
 use Rattle.runs.specs.State.{Process, Queue, State, fresh, nobody, queueAt, processAt}
 use Rattle.runs.specs.Turn.{processAfter, queueAfter, ending, acted}
 use Rattle.base.proofs.Cases.{if-set}
-use Rattle.runs.proofs.Sound.{Sizes, Fit, processes, slotsAt, Sound, Steps, rowAt}
+use Rattle.runs.proofs.Sound.{Steps, rowAt}
+use Rattle.runs.specs.inner.Sound.{Sizes, Fit, processes, slotsAt, Sound}
 use Rattle.base.specs.Lists.{In, All, Pairs}
 use Rattle.base.proofs.Lists.{all-snoc, all-map, all-in, in-all, pairs-snoc}
 use Rattle.theorems.proofs.queue.Memory.{Memory, memoryAt, memoryAfter, logAfter, log-after}

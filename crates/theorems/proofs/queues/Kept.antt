@@ -10,12 +10,12 @@ use Rattle.word.specs.Stages.{pastB2}
 use Rattle.word.specs.declared.Stage.{Stage}
 use Rattle.word.specs.declared.Stage.the-variants.{Idle}
 use Rattle.log.specs.declared.Entry.{Entry}
-use Rattle.runs.proofs.KindLaws.{isOwn}
+use Rattle.runs.specs.inner.Sound.{isOwn, Sizes, Fit, processes, slotsAt, Sound}
 use Rattle.runs.specs.Moment.{queueOf, pushedNode}
 use Rattle.runs.specs.State.{Process, Queue, State, fresh, queueAt, processAt}
 use Rattle.runs.specs.Turn.{acted, idle}
 use Rattle.base.proofs.Cases.{never}
-use Rattle.runs.proofs.Sound.{Sizes, Fit, processes, slotsAt, Sound, Steps, Fresh, rowAt}
+use Rattle.runs.proofs.Sound.{Steps, Fresh, rowAt}
 use Rattle.runs.proofs.Reached.{Reached, everywhere}
 use Rattle.base.specs.Lists.{All, Pairs}
 use Rattle.base.proofs.Lists.{all-map}

@@ -23,11 +23,12 @@ use Rattle.runfile.specs.declared.Call.the-variants.{Push, Pop}
 use Rattle.runs.specs.Moment.{queueOf, pushedNode, isTake, entry, nilMoment, takeMoment, nodeEntry, nilEntry}
 use Rattle.runs.specs.State.{Process, State, nobody, queueAt, processAt, start}
 use Rattle.runs.specs.Turn.{begun, processAfter, ending, acted}
-use Rattle.runs.proofs.KindLaws.{isPush, Gives, gives}
+use Rattle.runs.proofs.KindLaws.{Gives, gives}
+use Rattle.runs.specs.inner.Sound.{isPush, Sound, slotsAt}
 use Rattle.base.specs.Lists.{All, Pairs}
 use Rattle.base.proofs.Lists.{all-snoc, all-map, all-in, in-all, pairs-snoc}
 use Rattle.theorems.proofs.queue.Memory.{logAfter, log-after}
-use Rattle.runs.proofs.Sound.{Sound, Was, goes, begins, Steps, rowAt, slotsAt}
+use Rattle.runs.proofs.Sound.{Was, goes, begins, Steps, rowAt}
 use Rattle.runs.proofs.Reached.{everywhere}
 use Rattle.runs.specs.States.{StateOf}
 use Rattle.runs.proofs.States.{ByScript, reached}
@@ -190,7 +191,6 @@ module _ (f : RunFile) (w : InRanges f) (s : State) (v : Sound (sizesOf f) s) (i
   logged next.Full d g =
       with-new _ (λ _. new (entry p n r Full (pushedNode (r .call)) noMoment) refl (push-is g) (ap stageAfter d))
       (apart (entry p n r Full (pushedNode (r .call)) noMoment) refl (push-is g) (ap stageAfter d))
-  logged next.Refused d g = (old, i .once)
 
   origins-act : Origins f (acted p r s (rowAt (sizesOf f) s p r))
   origins-act =

@@ -17,8 +17,7 @@ use Rattle.runfile.specs.declared.Call.{Call}
 use Rattle.runs.specs.Moment.{queueOf, pushedNode}
 use Rattle.runs.specs.State.{Process, State, processAt}
 use Rattle.rules.specs.Contents.{bears}
-use Rattle.runs.proofs.KindLaws.{isOwn}
-use Rattle.runs.proofs.Sound.{Sizes, processes}
+use Rattle.runs.specs.inner.Sound.{isOwn, Sizes, processes}
 use Rattle.base.specs.Lists.{In, All, Pairs}
 use Rattle.base.proofs.Lists.{all-map, in-snoc}
 use Rattle.theorems.proofs.queue.Content.{Free, content, add-other}

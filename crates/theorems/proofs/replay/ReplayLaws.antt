@@ -24,7 +24,8 @@ use Rattle.runs.proofs.InRange.{run-cases}
 use Rattle.runs.proofs.States.{closer}
 use Rattle.theorems.specs.Replay.{freshTable, numbers, Lent, replay, Sheet, lowestHalfDone, sheetAfter, freshSheet, Accepts, lentWith, lentPlaying, lentClosing, lentBy, tableOf, Replayed, EveryRunReplayed, OnlyWay}
 use Rattle.theorems.proofs.replay.ReplayStep.{noteOf, sheetOf, Step, act-step, after-act, turn-step, after-turn}
-use Rattle.runs.proofs.Sound.{Sound, sound-fresh}
+use Rattle.runs.proofs.Sound.{sound-fresh}
+use Rattle.runs.specs.inner.Sound.{Sound}
 use Rattle.runs.proofs.Scripts.{sizesOf, fit, Each, each-start, start-fresh}
 
 -- the stages ls replay what is left of a run from s on, with ps left of the schedule; it ends in the state e

@@ -8,15 +8,13 @@ use borrow.Author.Tests.{ltb-false}
 use lib.Dec.{ltb}
 use lib.ListN.{length, getD, set, drop, List·getD-map}
 use lib.Seq.{slice, slice-cons, slice-empty, set-getD}
-use Rattle.desk.specs.Desk.{answerOf, numberOf, stageOf}
+use Rattle.desk.specs.Desk.{answerOf, numberOf, stageOf, deskAnswer, deskWord, deskSlots}
+use Rattle.desk.proofs.DeskLaws.{number-told, stage-told, row-done}
 use Rattle.range.specs.Range.{inRange}
 use Rattle.range.specs.inner.Facts.{StageIn}
 use Rattle.range.proofs.RangeLaws.{range-in}
 use Rattle.word.specs.Stages.{isIdle}
-use Rattle.queue.specs.Step.{leaves, rowOf, loadedSlot, loaded, stored, steppedOn, stageAfter}
-use Rattle.queue.proofs.StepLaws.{Answered, answered}
-use Rattle.queue.specs.declared.Next.{Next}
-use Rattle.queue.specs.declared.Next.the-variants.{Going, Done, Node, Nil, Lost, Full, Refused}
+use Rattle.queue.specs.Step.{rowOf, loadedSlot, loaded, stored, stageAfter}
 use Rattle.word.specs.declared.Stage.{Stage}
 use Rattle.word.specs.declared.Stage.the-variants.{Idle}
 use Rattle.queue.specs.declared.Stepped.{Stepped}
@@ -30,7 +28,8 @@ use Rattle.runs.specs.State.{Process, Queue, State, fresh, nobody, queueAt, pro
 use Rattle.runs.specs.Turn.{firstStage, begun, processAfter, queueAfter, acted, act, idle, turnAs, turn, turning}
 use Rattle.runs.proofs.KindLaws.{idle-is}
 use Rattle.theorems.specs.Replay.{wordAt, slotsAt, Lent, answerTo, Note, firstOf, queueFor, lends, noted, Sheet, noteAt, whoNext, nextLent, sheetAfter, lentWith, tableOf}
-use Rattle.runs.proofs.Sound.{Sound, Was, goes, begins, Steps, rowAt, act-is, sound-act, sound-idle}
+use Rattle.runs.proofs.Sound.{Was, goes, begins, Steps, rowAt, act-is, sound-act, sound-idle}
+use Rattle.runs.specs.inner.Sound.{Sound}
 use Rattle.runs.proofs.Scripts.{sizesOf, fit, finished, sum-take, Scripted, Each, ready-case, turn-case, each-act}
 
 -- a list mapped after a store
@@ -38,25 +37,6 @@ map-set : {A B : Type 0} (g : A → B) (l : List A) (i : ℕ) (x : A) → map g 
 map-set g [] i x = refl
 map-set g (y ∷ l) zero x = refl
 map-set g (y ∷ l) (suc i) x = ap (λ m. g y ∷ m) (map-set g l i x)
-
--- an answer that is no refusal has number 0, and gives the next stage
-answer-number : (z : Stage) (n : Next) → Answered n → numberOf (answerOf z n) ≡ 0
-answer-number z (Going x) h = refl
-answer-number z Done h = refl
-answer-number z (Node x) h = refl
-answer-number z Nil h = refl
-answer-number z Lost h = refl
-answer-number z Full h = refl
-answer-number z Refused h = absurd h
-
-answer-stage : (z : Stage) (n : Next) → Answered n → stageOf (answerOf z n) ≡ stageAfter n
-answer-stage z (Going x) h = refl
-answer-stage z Done h = refl
-answer-stage z (Node x) h = refl
-answer-stage z Nil h = refl
-answer-stage z Lost h = refl
-answer-stage z Full h = refl
-answer-stage z Refused h = absurd h
 
 -- the sheet that belongs to a state of the run, where ps is left of the schedule
 abbrev pub noteOf : RunFile → Process → Note
@@ -91,17 +71,22 @@ module _ (f : RunFile) (h : InRanges f) (s : State) (v : Sound (sizesOf f) s) (c
   row q z = rowOf (f .width) (f .size) (queueAt (s .bench) q .word) (loaded (getD (s .slots) q []) (loadedSlot z)) z
 
   desk-row : (q : ℕ) (z : Stage) → q < length (f .shares) → StageIn (f .width) (f .size) z
-      → steppedOn (f .width) (f .size) (wordAt (tableOf s) q) (slotsAt (tableOf s) q) z ≡ row q z
+      → let w : Word = wordAt (tableOf s) q in
+      let x : List ℕ = slotsAt (tableOf s) q in
+      (deskAnswer (f .width) (f .size) w x z ≡ answerOf (row q z .next)) × (deskWord (f .width) (f .size) w x z ≡ row q z .word)
+      × (deskSlots (f .width) (f .size) w x z ≡ stored x (row q z .store))
   desk-row q z lt i =
+      let W = f .width in
+      let C = f .size in
       let w : Word = queueAt (s .bench) q .word in
       let x : List ℕ = getD (s .slots) q [] in
-      let e : inRange (f .width) (f .size) (length x) w z ≡ true = range-in (f .width) (f .size) (length x) w z (record {
+      let e : inRange W C (length x) w z ≡ true = range-in W C (length x) w z (record {
         sizes = record { width-high = h .width; size-low = h .size .0; size-high = h .size .1; all = v .sizes q lt };
         word = v .words q lt;
         stage = i;
       }) in
-      ap (λ (y : Word). steppedOn (f .width) (f .size) y x z) (word-at q)
-      ∙ ap (λ (t : Bool). cond t (row q z) (leaves w Refused)) e
+      subst (λ (y : Word). (deskAnswer W C y x z ≡ answerOf (row q z .next)) × (deskWord W C y x z ≡ row q z .word) × (deskSlots W C y x z ≡ stored x (row q z .store)))
+      (sym (word-at q)) (row-done W C w x z e)
 
   -- process p, whose turn it is, lends the stage z on queue q
   module _ (ps : List ℕ) (p q : ℕ) (z : Stage) (who : whoNext (sheetOf f ps s) ≡ p) (small : p < 8) (lt : q < length (f .shares))
@@ -112,16 +97,13 @@ module _ (f : RunFile) (h : InRanges f) (s : State) (v : Sound (sizesOf f) s) (c
     abbrev was : Note
     was = noteOf f (processAt (s .bench) p)
 
-    the-answer : answerTo (f .width) (f .size) (tableOf s) this ≡ answerOf z (row q z .next)
-    the-answer = ap (λ (o : Stepped). answerOf z (o .next)) (desk-row q z lt i)
-
-    fine : Answered (row q z .next)
-    fine = answered (f .width) (f .size) (queueAt (s .bench) q .word) (loaded (getD (s .slots) q []) (loadedSlot z)) z
+    the-answer : answerTo (f .width) (f .size) (tableOf s) this ≡ answerOf (row q z .next)
+    the-answer = desk-row q z lt i .0
 
     note-after : noted (noteAt notes p) (answerTo (f .width) (f .size) (tableOf s) this) ≡ noteAfter (stageAfter (row q z .next)) (was .calls)
     note-after =
         ap (λ (n : Note). noted n (answerTo (f .width) (f .size) (tableOf s) this)) (note-at p)
-        ∙ ap (λ (x : Stage). noteAfter x (was .calls)) (ap stageOf the-answer ∙ answer-stage z (row q z .next) fine)
+        ∙ ap (λ (x : Stage). noteAfter x (was .calls)) (ap stageOf the-answer ∙ stage-told (row q z .next))
 
     one-step : (s′ : State) → lends p was ≡ this
         → tableOf s′ .words ≡ set (tableOf s .words) q (row q z .word)
@@ -132,13 +114,13 @@ module _ (f : RunFile) (h : InRanges f) (s : State) (v : Sound (sizesOf f) s) (c
     one-step s′ e words slots noting count = record {
       going = subst (λ (j : ℕ). j < 8) (sym who) small;
       next = sym (ap (λ (j : ℕ). lends j (noteAt notes j)) who ∙ ap (lends p) (note-at p) ∙ e);
-      number = ap numberOf the-answer ∙ answer-number z (row q z .next) fine;
+      number = ap numberOf the-answer ∙ number-told (row q z .next);
       after = λ j. record {
         schedule = drop 1 ps;
         notes = (ap (set notes p) note-after ∙ sym noting) j;
         table = record {
-          words = (ap (λ (o : Stepped). set (tableOf s .words) q (o .word)) (desk-row q z lt i) ∙ sym words) j;
-          slots = (ap (λ (o : Stepped). set (s .slots) q (stored (getD (s .slots) q []) (o .store))) (desk-row q z lt i) ∙ sym slots) j;
+          words = (ap (set (tableOf s .words) q) (desk-row q z lt i .1) ∙ sym words) j;
+          slots = (ap (set (s .slots) q) (desk-row q z lt i .2) ∙ sym slots) j;
         };
       };
       count = count;
@@ -208,7 +190,7 @@ module _ (f : RunFile) (h : InRanges f) (s : State) (v : Sound (sizesOf f) s) (c
 
     pub act-step : Step f ps s (lentWith p r) (act (f .width) (f .size) p r s)
     act-step =
-        subst (Step f ps s (lentWith p r)) (sym (act-is (sizesOf f) (fit f h) s v p r k))
+        subst (Step f ps s (lentWith p r)) (sym (act-is (sizesOf f) s p r))
         (subst (λ (t : Bool). Step f ps s (record { process = p; queue = cond t p q; stage = r .stage }) (acted p r s o)) (sym (k .busy))
         (one-step ps p q (r .stage) who (omega (arith, k .below, h .processes)) (k .placed .queue) (k .placed .stage) (acted p r s o) busy-lends
         (map-set (λ (m : Queue). m .word) (s .bench .queues) q (queueAfter (queueAt (s .bench) q) o)) refl
@@ -276,7 +258,7 @@ module _ (f : RunFile) (h : InRanges f) (s : State) (v : Sound (sizesOf f) s) (c
   Good x = Sound (sizesOf f) x × Each f x
 
   pub after-act : (p : ℕ) (r : Process) → Steps (sizesOf f) s p r → Scripted f p r → Good (act (f .width) (f .size) p r s)
-  after-act p r k cr = subst Good (sym (act-is (sizesOf f) (fit f h) s v p r k)) (sound-act (sizesOf f) (fit f h) s v p r k, each-act f h s v c p r k cr)
+  after-act p r k cr = subst Good (sym (act-is (sizesOf f) s p r)) (sound-act (sizesOf f) (fit f h) s v p r k, each-act f h s v c p r k cr)
 
   pub after-turn : (p : ℕ) → p < length (f .shares) → Good (turn (f .width) (f .size) (f .calls) p s)
   after-turn p lt = turn-case f h Good s v c p lt (λ _. (sound-idle (sizesOf f) (fit f h) s v, c)) (after-act p)

@@ -1,15 +1,16 @@
 -- The run's step and the desk's are the same.
 use Prim.Native.Nat.{ℕ}
-use mathlib.Core.Path.{refl}
+use mathlib.Core.Path.{refl, _∙_}
 use mathlib.Core.Logic.{inl, inr}
 use mathlib.Core.List.{[], _∷_}
 use lib.ListN.{getD}
 use lib.Seq.{getD-set-same}
 use Rattle.queue.specs.Step.{stored, steppedOn}
-use Rattle.queue.specs.declared.Next.the-variants.{Going, Done, Node, Nil, Lost, Full, Refused}
+use Rattle.queue.specs.declared.Next.the-variants.{Going, Done, Node, Nil, Lost, Full}
 use Rattle.queue.specs.declared.Stepped.{Stepped}
 use Rattle.log.specs.declared.Entry.{Entry}
 use Rattle.base.proofs.Cases.{either-way}
+use Rattle.desk.proofs.DeskLaws.{row-done}
 use Rattle.runs.specs.Moment.{queueOf, isTake, ends}
 use Rattle.runs.specs.State.{fresh, nobody, queueAt}
 use Rattle.runs.specs.Turn.{queueAfter, processAfter, act}
@@ -27,13 +28,12 @@ run-steps W C p r s h k l =
     }
 
 pub desk-steps : DeskSteps
-desk-steps W C w slots z answer word after h = (h .answered, h .altered, h .kept)
+desk-steps W C w slots z answer word after h e = let k = row-done W C w slots z e in (h .answered ∙ k .0, h .altered ∙ k .1, h .kept ∙ k .2)
 
 pub same-result : SameResult
-same-result p n r owner t z (Going y) = refl
-same-result p n r owner t z Done = inl refl
-same-result p n r owner t z (Node x) = either-way (λ (e : Entry). Tells (1 ∷ x ∷ []) (ends e)) (isTake (r .call)) (λ _. inr refl) (λ _. inr refl)
-same-result p n r owner t z Nil = either-way (λ (e : Entry). Tells (0 ∷ 0 ∷ []) (ends e)) (isTake (r .call)) (λ _. inr refl) (λ _. inr refl)
-same-result p n r owner t z Lost = inr refl
-same-result p n r owner t z Full = inl refl
-same-result p n r owner t z Refused = refl
+same-result p n r owner t (Going y) = refl
+same-result p n r owner t Done = inl refl
+same-result p n r owner t (Node x) = either-way (λ (e : Entry). Tells (1 ∷ x ∷ []) (ends e)) (isTake (r .call)) (λ _. inr refl) (λ _. inr refl)
+same-result p n r owner t Nil = either-way (λ (e : Entry). Tells (0 ∷ 0 ∷ []) (ends e)) (isTake (r .call)) (λ _. inr refl) (λ _. inr refl)
+same-result p n r owner t Lost = inr refl
+same-result p n r owner t Full = inl refl

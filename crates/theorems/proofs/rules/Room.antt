@@ -29,8 +29,9 @@ use Rattle.runs.specs.State.{Process, Queue, State, fresh, queueAt}
 use Rattle.runs.specs.Turn.{queueAfter, ending, acted, idle}
 use Rattle.rules.specs.Rules.{did, since}
 use Rattle.theorems.proofs.queue.Cases.{if-age}
-use Rattle.runs.proofs.KindLaws.{isPush, isOwn, Gives, gives}
-use Rattle.runs.proofs.Sound.{Sizes, Fit, Fresh, processes, Sound, Was, goes, begins, Steps, rowAt, slotsAt}
+use Rattle.runs.proofs.KindLaws.{Gives, gives}
+use Rattle.runs.specs.inner.Sound.{isPush, isOwn, Sizes, Fit, processes, Sound, slotsAt}
+use Rattle.runs.proofs.Sound.{Fresh, Was, goes, begins, Steps, rowAt}
 use Rattle.theorems.proofs.queue.Content.{at}
 use Rattle.theorems.proofs.queue.Memory.{Memory, memoryAt, rowIn, asOwner, lim, first-lim, logAfter, log-after}
 use Rattle.theorems.proofs.queue.Inv.{AtOwner, Control}
@@ -116,7 +117,6 @@ Stock C a b (next.Node x) = b + 1 ≤ a
 Stock C a b next.Nil = b ≡ 0
 Stock C a b next.Lost = ⊥
 Stock C a b next.Full = (b ≤ a) × (a ≡ C)
-Stock C a b next.Refused = b ≤ a
 
 abbrev StockBy : ℕ → ℕ → Stepped → Type 0
 StockBy C a o = Stock C a (o .word .bottom) (o .next)
@@ -195,7 +195,6 @@ module _ (f : Sizes) (w : Fit f) (s : State) (v : Sound f s) (h : Inv f s) (j : 
       either-way (λ (e : Entry). RoomFor (l ++ (e ∷ [])) a y) (isTake (r .call)) (λ _. room-else l _ a y d g) (λ _. room-else l _ a y d g)
   else-after next.Lost a y d g = room-else l _ a y d g
   else-after next.Full a y d g = room-else l _ a y d g
-  else-after next.Refused a y d g = g
 
   -- and is a FULL where the step gives one
   abbrev Fulls : List Entry → Type 0
@@ -213,7 +212,6 @@ module _ (f : Sizes) (w : Fit f) (s : State) (v : Sound f s) (h : Inv f s) (j : 
       either-way (λ (e : Entry). Fulls (l ++ (e ∷ []))) (isTake (r .call)) (λ _. full-after _ (other TopNil refl)) (λ _. full-after _ (other BottomNil refl))
   fulls-after next.Lost g = full-after _ (other TopLost refl)
   fulls-after next.Full g = full-after _ (λ _. g refl)
-  fulls-after next.Refused g = j .fulls
 
   abbrev RoomOf : List Entry → Type 0
   RoomOf l′ = Room f (record { bench = acted p r s o .bench; slots = acted p r s o .slots; log = l′ })
@@ -259,7 +257,6 @@ module _ (f : Sizes) (w : Fit f) (s : State) (v : Sound f s) (h : Inv f s) (j : 
         (λ _. room-after l _ q b here-is refl refl (omega arith))
     room-here b next.Lost g = absurd g
     room-here b next.Full g = room-after l _ q b refl refl refl (omega (arith, g .0, room-before))
-    room-here b next.Refused g = omega (arith, room-before)
 
     full-here : o .next ≡ next.Full → RoomFor l q (f .size)
     full-here e = subst (RoomFor l q) (subst (Stock (f .size) a (o .word .bottom)) e stocked .1) room-before
@@ -303,7 +300,6 @@ module _ (f : Sizes) (w : Fit f) (s : State) (v : Sound f s) (h : Inv f s) (j : 
         (λ t. ever (sym taking ∙ t))
     top-after next.Lost g b y h = room-after l _ b y refl refl refl h
     top-after next.Full g b y h = absurd (no-push g)
-    top-after next.Refused g b y h = h
 
     given : Gives (r .stage) (o .next)
     given = gives (f .width) (f .size) (queueAt (s .bench) q .word) (loaded (slotsAt s q) (loadedSlot (r .stage))) (r .stage)

@@ -33,8 +33,9 @@ use Rattle.runs.specs.States.{StateOf}
 use Rattle.base.proofs.Bools.{or-r}
 use Rattle.runs.specs.Turn.{firstStage, begun, processAfter, queueAfter, acted, idle}
 use Rattle.theorems.proofs.queue.Cases.{if-age}
-use Rattle.runs.proofs.KindLaws.{isPush, isOwn, isTop, within, own-queue, whose}
-use Rattle.runs.proofs.Sound.{Sizes, Fit, Fresh, processes, slotsAt, Sound, Was, goes, begins, Steps, rowAt}
+use Rattle.runs.proofs.KindLaws.{within, own-queue, whose}
+use Rattle.runs.specs.inner.Sound.{isPush, isOwn, isTop, Sizes, Fit, processes, slotsAt, Sound}
+use Rattle.runs.proofs.Sound.{Fresh, Was, goes, begins, Steps, rowAt}
 use Rattle.runs.proofs.Reached.{Reached, everywhere}
 use Rattle.runs.proofs.Scripts.{sizesOf, fit, start-fresh}
 use Rattle.runs.proofs.States.{ByScript, reached, the-end}
@@ -153,7 +154,6 @@ none-gone r n (next.Node x) h = by (isTake (r .call)) refl
 none-gone r n next.Nil h = refl
 none-gone r n next.Lost h = refl
 none-gone r n next.Full h = refl
-none-gone r n next.Refused h = refl
 
 past-owns : (s : Stage) → pastB4 s ≡ true → isOwn s ≡ true
 past-owns s e = or-r (isPush s) (leb 8 (rowNumber s)) (le-leb 8 (rowNumber s) (omega (arith, leb-true 12 (rowNumber s) e)))

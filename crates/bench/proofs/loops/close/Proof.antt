@@ -7,27 +7,27 @@ use borrow.Author.Needs.{needs}
 use lib.ListN.{length, getD}
 use native.Mathlib.Omega.{arith}
 use Rattle.runfile.specs.File.{firstCalls}
-use Rattle.bench.proofs.RunLaws.{Closing, along-length, closing-start, closing-next, closing-early, closing-all}
-use Rattle.bench.specs.inner.Layout.{benchIn, stateIn}
+use Rattle.bench.proofs.RunLaws.{Closing, along-length, closing-start, closing-below, closing-next, closing-early, closing-all}
+use Rattle.bench.specs.inner.Layout.{benchIn, stateIn, sizesIn}
 use Rattle.bench.proofs.LayoutLaws.{held-processes}
-use Rattle.runs.proofs.TurnLaws.{calls-aimed}
+use Rattle.runs.proofs.TurnLaws.{calls-in}
 use Rattle.runs.proofs.HalfLaws.{next-closed, run-closed, run-open}
 use Rattle.bench.proofs.loops.close.Statement.{statement}
 use Rattle.bench.proofs.loops.close.Tie as tie
 
 abbrev Inv-loop : tie.InvT-loop
 Inv-loop file shape slots₀ log₀ after₀ done₀ slots log after done =
-    (done ≤ 48) × (length slots ≡ 512) × Closing (shape .width) (shape .size) (after₀ .entries) log₀ (stateIn (shape .size) after₀ slots₀) done after slots log
+    (done ≤ 48) × (length slots ≡ 512) × Closing (sizesIn shape) (after₀ .entries) log₀ (stateIn (shape .size) after₀ slots₀) done after slots log
 
 abbrev μ-loop : tie.MeasureT-loop
 μ-loop file shape slots₀ log₀ after₀ done₀ slots log after done = 48 - done
 
-alone : (p : ℕ) → p < 8 → (k : ℕ) → k < 1 → getD (p ∷ []) k 0 < 8
-alone p l zero h = l
-alone p l (suc k) h = absurd (omega arith)
+alone : (n p : ℕ) → p < n → (k : ℕ) → k < 1 → getD (p ∷ []) k 0 < n
+alone n p l zero h = l
+alone n p l (suc k) h = absurd (omega arith)
 
 loop-holds : tie.Need-loop-holds Inv-loop μ-loop
-loop-holds c = let s = c .before .before .before in (omega arith, s .pre .all-slots, closing-start _ _ _ _ _ (s .pre .counted) (s .pre .few))
+loop-holds c = let s = c .before .before .before in (omega arith, s .pre .all-slots, closing-start (sizesIn (s .args .shape)) _ _ _ (s .pre .counted) (s .pre .sound) (s .pre .few))
 
 half-done-requires : tie.Need-half-done-requires Inv-loop μ-loop
 half-done-requires c κs = held-processes (c .before .loop .after) _ (c .before .loop .inv .2 .0 .counted)
@@ -41,7 +41,7 @@ same-length-2 c = along-length _ _ _ _ _ _ _ (c .before .before .before .loop .i
 returns : tie.Need-returns Inv-loop μ-loop
 returns c =
     let l = c .before .before .before .loop in
-    closing-early _ _ _ _ _ _ _ _ _ (l .inv .2) (run-closed (benchIn (l .after) .processes) (l .inv .2 .0 .counted .processes) _ (c .before .half-done .ensures) (c .if1 .taken)) 48 (l .inv .0)
+    closing-early (sizesIn (c .before .before .before .before .before .before .before .args .shape)) _ _ _ _ _ _ _ (l .inv .2) (run-closed (benchIn (l .after) .processes) (l .inv .2 .0 .counted .processes) _ (c .before .half-done .ensures) (c .if1 .taken)) 48 (l .inv .0)
 
 cast-p : tie.Need-cast-p Inv-loop μ-loop
 cast-p c = omega (arith, trailing-le 8 (c .before .half-done .result))
@@ -57,9 +57,11 @@ play-requires c κs =
       counted = counted;
       few = omega (arith, l .inv .2 .1, c .before .before .before .before .before .loop-test .taken);
       all-slots = l .inv .1;
-      size = s .pre .size;
-      processes = s .pre .processes;
-      below = alone (trailingZeros 8 set) (omega (arith, lowest));
+      fit = s .pre .fit;
+      sound = l .inv .2 .0 .sound;
+      below = alone (s .args .shape .processes) (trailingZeros 8 set)
+          (closing-below (sizesIn (s .args .shape)) (stateIn (s .args .shape .size) (l .after) (l .slots)) (l .inv .2 .0 .sound) (trailingZeros 8 set)
+          (next-closed (benchIn (l .after) .processes) (counted .processes) set (c .before .before .before .before .half-done .ensures)) lowest);
     }
 
 loop-again : tie.Need-loop-again Inv-loop μ-loop
@@ -70,8 +72,8 @@ loop-again c =
     let set = c .before .before .before .before .before .before .before .before .before .half-done .ensures in (
       omega (arith, c .before .before .before .before .before .before .before .before .before .before .loop-test .taken),
       omega (arith, c .before .before .before .slots .given, l .inv .1),
-      closing-next _ _ _ _ _ _ _ _ _ (l .inv .2) (firstCalls (s .args .file .now) (s .args .shape .processes) (s .args .shape .calls))
-          (calls-aimed (s .args .file .now) (s .args .shape .processes) (s .args .shape .calls) (s .pre .processes)) (trailingZeros 8 (c .before .before .before .before .before .before .before .before .before .half-done .result)) _ _ _
+      closing-next (sizesIn (s .args .shape)) _ _ _ _ _ _ _ (l .inv .2) (s .pre .fit) (firstCalls (s .args .file .now) (s .args .shape .processes) (s .args .shape .calls))
+          (calls-in (s .args .file .now) (s .args .shape .processes) (s .args .shape .calls)) (trailingZeros 8 (c .before .before .before .before .before .before .before .before .before .half-done .result)) _ _ _
           (next-closed (benchIn (l .after) .processes) counted _ set) (run-open (benchIn (l .after) .processes) counted _ set (c .before .before .before .before .before .before .before .before .if1 .left)) (c .before .before .before .before .play .ensures),
     )
 
@@ -82,7 +84,7 @@ same-length-4 : tie.Need-same-length-4 Inv-loop μ-loop
 same-length-4 c = along-length _ _ _ _ _ _ _ (c .before .loop .inv .2 .0)
 
 returns-2 : tie.Need-returns-2 Inv-loop μ-loop
-returns-2 c = closing-all _ _ _ _ _ _ _ _ _ (c .before .loop .inv .2) 48 (c .before .loop .inv .0) (c .loop-test .left)
+returns-2 c = closing-all (sizesIn (c .before .before .before .before .before .args .shape)) _ _ _ _ _ _ _ (c .before .loop .inv .2) 48 (c .before .loop .inv .0) (c .loop-test .left)
 
 pub close-spec : {M : Type 1} → statement M
 close-spec =

@@ -21,9 +21,6 @@ returns-5 c = rw (c .before .enum-told4 .given .1, c .entry2 .ensures)
 returns-6 : tie.Need-returns-6
 returns-6 c = rw (c .before .enum-told5 .given .1, c .entry3 .ensures, c .before .before .before .pushed-node .ensures)
 
-returns-7 : tie.Need-returns-7
-returns-7 c = rw (c .enum-told6 .given .1)
-
 pub ended-spec : {M : Type 1} → statement M
 ended-spec =
     tie.close
@@ -41,11 +38,9 @@ ended-spec =
     (λ c κs. search needs)
     (λ c. search needs)
     (λ c κs. search needs)
-    (λ c. search needs)
     returns
     returns-2
     returns-3
     returns-4
     returns-5
-    returns-6
-    returns-7)
+    returns-6)

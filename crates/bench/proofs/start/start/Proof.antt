@@ -1,6 +1,5 @@
 -- `start::start` meets its contract.
 use mathlib.Core.Path.{refl}
-use mathlib.Core.Bool.{false}
 use mathlib.Core.List.{[], _∷_}
 use lib.ListN.{replicate}
 use borrow.Author.Needs.{needs}
@@ -18,7 +17,6 @@ returns c = (
         ∷ c .scripted8 .ensures i ∷ [];
     steps = 0;
     gone = 0;
-    refused = false;
   },
   refl,
 )

@@ -1,15 +1,13 @@
 -- `rows::reset` meets its contract.
-use Prim.Native.Nat.{ℕ}
-use mathlib.Core.Path.{ap}
+use Rattle.queue.proofs.PackedLaws.{reset-as}
 use borrow.Author.Needs.{needs}
-use Rattle.queue.specs.Packed.{packedResets}
 use Rattle.queue.proofs.rows.reset.Statement.{statement}
 use Rattle.queue.proofs.rows.reset.Tie as tie
 
 returns : tie.Need-returns
 returns c =
-    let s = c .before .before in
-    rw (c .next-age .ensures) (ap (λ (a : ℕ). packedResets (s .args .width) (s .args .word) a (s .args .next)) (c .before .of .ensures))
+    let a = c .before .before .args in
+    reset-as (a .width) (a .word) (a .t) (a .g) (a .next) (c .next-age .result .word) (search needs) (search needs) (rw (← c .before .of .ensures) (c .next-age .ensures))
 
 pub reset-spec : {M : Type 1} → statement M
 reset-spec = tie.close (tie.spec (λ c κs. search needs) (λ c κs. search needs) returns)
