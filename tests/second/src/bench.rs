@@ -56,16 +56,15 @@ impl<'a> Bench<'a> {
         }
     }
 
-    pub fn run(&mut self) -> Result<(), u16> {
+    pub fn run(&mut self) {
         for &process in self.file.schedule {
-            self.step(usize::from(process))?;
+            self.step(usize::from(process));
         }
         for process in 0..self.file.lengths.len() {
             while self.processes[process].stage.is_some() {
-                self.step(process)?;
+                self.step(process);
             }
         }
-        Ok(())
     }
 
     /// Whether a step of this process would do anything.
@@ -74,15 +73,14 @@ impl<'a> Bench<'a> {
         process.stage.is_some() || process.next_call < process.calls_end
     }
 
-    pub fn step(&mut self, process: usize) -> Result<(), u16> {
+    pub fn step(&mut self, process: usize) {
         if self.processes[process].stage.is_none() {
             self.begin(process);
         }
         if let Some(stage) = self.processes[process].stage {
-            self.access(process, stage)?;
+            self.access(process, stage);
         }
         self.steps += 1;
-        Ok(())
     }
 
     fn begin(&mut self, index: usize) {
@@ -100,13 +98,13 @@ impl<'a> Bench<'a> {
         };
     }
 
-    fn access(&mut self, index: usize, stage: Stage) -> Result<(), u16> {
+    fn access(&mut self, index: usize, stage: Stage) {
         let sizes = Sizes {
             tag_bits: self.file.tag_bits,
             capacity: self.file.capacity,
         };
         let queue = usize::from(self.processes[index].queue);
-        let after = self.queues[queue].step(sizes, stage)?;
+        let after = self.queues[queue].step(sizes, stage);
         let process = &mut self.processes[index];
         match stage {
             Stage::T1 => process.resets_at_t1 = self.resets[queue],
@@ -120,7 +118,6 @@ impl<'a> Bench<'a> {
                 self.end(index, stage, result, node);
             }
         }
-        Ok(())
     }
 
     fn end(&mut self, index: usize, last: Stage, result: u8, node: u16) {

@@ -55,7 +55,7 @@ pub fn all_orders(maker: &mut Maker<impl Write>) -> io::Result<()> {
         let bytes = file.bytes();
         let mut bench = Bench::new(RunFile::read(&bytes).expect("a good file"));
         for &process in &file.schedule {
-            bench.step(usize::from(process)).expect("a step in bounds");
+            bench.step(usize::from(process));
         }
         orders_from(&bench, &mut file, maker)?;
     }
@@ -69,7 +69,7 @@ fn orders_from(bench: &Bench, file: &mut File, maker: &mut Maker<impl Write>) ->
         if bench.has_work(process) {
             finished = false;
             let mut next = bench.clone();
-            next.step(process).expect("a step in bounds");
+            next.step(process);
             file.schedule.push(process as u8);
             orders_from(&next, file, maker)?;
             file.schedule.pop();

@@ -99,8 +99,8 @@ impl Queue {
         slots: [0; 64],
     };
 
-    /// One step; 9 where it would touch a slot at or above the capacity.
-    pub fn step(&mut self, sizes: Sizes, stage: Stage) -> Result<After, u16> {
+    /// One step.
+    pub fn step(&mut self, sizes: Sizes, stage: Stage) -> After {
         match stage {
             P1 { .. } | P2 { .. } | P3 { .. } => self.push_step(sizes, stage),
             T1 | T2 { .. } | T3 { .. } | T4 { .. } => self.top_step(sizes, stage),
@@ -108,12 +108,13 @@ impl Queue {
         }
     }
 
-    fn slot(&mut self, sizes: Sizes, index: u16) -> Result<&mut u16, u16> {
-        if index < u16::from(sizes.capacity) {
-            Ok(&mut self.slots[usize::from(index)])
-        } else {
-            Err(9)
-        }
+    /// A run never touches a slot at or above the capacity (C-18): here it would stop.
+    fn slot(&mut self, sizes: Sizes, index: u16) -> &mut u16 {
+        assert!(
+            index < u16::from(sizes.capacity),
+            "slot {index} is none of the queue's"
+        );
+        &mut self.slots[usize::from(index)]
     }
 
     /// Compares and exchanges the age word; a comparison that fails alters nothing.
@@ -125,15 +126,15 @@ impl Queue {
         same
     }
 
-    fn push_step(&mut self, sizes: Sizes, stage: Stage) -> Result<After, u16> {
-        Ok(match stage {
+    fn push_step(&mut self, sizes: Sizes, stage: Stage) -> After {
+        match stage {
             P1 { node } if self.bottom == u16::from(sizes.capacity) => End { result: FULL, node },
             P1 { node } => Next(P2 {
                 node,
                 b: self.bottom,
             }),
             P2 { node, b } => {
-                *self.slot(sizes, b)? = node;
+                *self.slot(sizes, b) = node;
                 Next(P3 { node, b })
             }
             P3 { node, b } => {
@@ -141,17 +142,17 @@ impl Queue {
                 gives(node)
             }
             _ => unreachable!("no stage of a push"),
-        })
+        }
     }
 
-    fn top_step(&mut self, sizes: Sizes, stage: Stage) -> Result<After, u16> {
-        Ok(match stage {
+    fn top_step(&mut self, sizes: Sizes, stage: Stage) -> After {
+        match stage {
             T1 => Next(T2 { age: self.age }),
             T2 { age } if self.bottom <= age.top => NOTHING,
             T2 { age } => Next(T3 { age }),
             T3 { age } => Next(T4 {
                 age,
-                node: *self.slot(sizes, age.top)?,
+                node: *self.slot(sizes, age.top),
             }),
             T4 { age, node } => {
                 let taken = Age {
@@ -165,11 +166,11 @@ impl Queue {
                 }
             }
             _ => unreachable!("no stage of a top pop"),
-        })
+        }
     }
 
-    fn bottom_step(&mut self, sizes: Sizes, stage: Stage) -> Result<After, u16> {
-        Ok(match stage {
+    fn bottom_step(&mut self, sizes: Sizes, stage: Stage) -> After {
+        match stage {
             B1 if self.bottom == 0 => NOTHING,
             B1 => Next(B2 { b: self.bottom }),
             B2 { b } => {
@@ -178,7 +179,7 @@ impl Queue {
             }
             B3 { b } => Next(B4 {
                 b,
-                node: *self.slot(sizes, b - 1)?,
+                node: *self.slot(sizes, b - 1),
             }),
             B4 { b, node } if b - 1 > self.age.top => gives(node),
             B4 { b, node } => Next(B5 {
@@ -201,6 +202,6 @@ impl Queue {
                 NOTHING
             }
             _ => unreachable!("no stage of a bottom pop"),
-        })
+        }
     }
 }
