@@ -20,7 +20,7 @@ use Rattle.runfile.specs.File.{RunFile}
 use Rattle.runs.specs.Run.{Outcome, closed, finished, tableAt, tableRow, tableSize, inTable}
 use Rattle.runs.specs.State.{State, queueAt}
 use Rattle.runs.proofs.InRange.{run-cases}
-use Rattle.runs.proofs.Sound.{slotsAt}
+use Rattle.runs.specs.inner.Sound.{slotsAt}
 use Rattle.rules.specs.Left.{afterAll, leftIn, nodesBy, timesPushed, timesReturned, tally, placesOf}
 use Rattle.rules.proofs.AcceptedLaws.{entries-are}
 use Rattle.rules.proofs.CountLaws.{sum-same}
