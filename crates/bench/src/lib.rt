@@ -53,7 +53,7 @@ pub struct Process {
     pub resets_at_t1: u16,
 }
 
-// The state of a run, but for the slots and the log, which lie in arrays of their own.
+// The state of a run, but for the slots, which lie in an array of their own, and the log, which lies in the buffer.
 pub struct Bench {
     pub queues: [Queue; 8],
     pub processes: [Process; 8],
