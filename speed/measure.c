@@ -1,9 +1,13 @@
-/* Times the proved bench and judge against a plain C bench and the second implementation, in Rust, on the same files and the same log, and
- * one call of the rack against single calls, in turn, in one run, and prints the ratios. */
+/* Times the proved bench and judge against plain ones in C and the second implementation, in Rust, on the same files and logs, and one call of
+ * the rack against single calls, in turn, in one run, and prints the ratios; then how the times grow. `measure count JOB PROGRAM` does one job by
+ * one program for a counter of instructions, and prints its name; where there is no such job it prints nothing. */
+#include "inputs.h"
 #include "plain.h"
 #include "scarpgoblet.h"
 
+#include <stdbool.h>
 #include <stdio.h>
+#include <stdlib.h>
 #include <string.h>
 #include <time.h>
 
@@ -13,12 +17,28 @@ typedef uint32_t judge_fn(const uint8_t *, size_t);
 run_fn second_run;
 judge_fn second_judge;
 
-enum { ROUNDS = 40, TIMES = 50, FILE_MOST = 4880, TABLE = 536, FILES = 300, REPLY = 8 };
+enum { ROUNDS = 40, TIMES = 50, COUNTED = 10, TABLE = 536, FILES = 300, REPLY = 8, BENCH_JOBS = 10, JOBS = BENCH_JOBS + WORST };
+
+enum program { PROVED, C, RUST, PROGRAMS };
+
+static run_fn *const runs[PROGRAMS] = {scarpgoblet_run, plain_run, second_run};
+static judge_fn *const judges[PROGRAMS] = {scarpgoblet_judge, plain_judge, second_judge};
+
+enum work { RUN, JUDGE, BOTH };
+
+/* A file to run, a log to judge, or a file to run whose log is judged. */
+struct job {
+    enum work work;
+    const char *name;
+    size_t file_len, log_len;
+    uint8_t file[FILE_MOST], log[SCARPGOBLET_LOG_MOST];
+};
 
 struct reply {
     uint8_t log[SCARPGOBLET_LOG_MOST];
     uint16_t report[4], table[TABLE];
     size_t length;
+    uint32_t number;
 };
 
 struct racked {
@@ -27,29 +47,40 @@ struct racked {
 
 typedef void rack_fn(const uint8_t *, size_t, struct racked *);
 
-static uint32_t seed = 1;
+static const char *const work_names[] = {"run", "judge", "run and judge"};
 
-static unsigned random_below(unsigned n) {
-    seed = seed * 1664525u + 1013904223u;
-    return (seed >> 8) % n;
+static void do_job(const struct job *j, enum program p, struct reply *r) {
+    if (j->work != JUDGE) r->length = runs[p](j->file, j->file_len, r->log, sizeof r->log, r->report, r->table);
+    if (j->work == JUDGE) r->number = judges[p](j->log, j->log_len);
+    if (j->work == BOTH) r->number = judges[p](r->log, r->length);
 }
 
-/* A file of p processes with so many calls each, by chance of codes 1, a push, to the last, and a random schedule. */
-static size_t make(uint8_t *f, unsigned p, unsigned calls, unsigned last_code, unsigned steps) {
-    size_t at = 0;
-    unsigned node = 1;
-    f[at++] = 2, f[at++] = 8, f[at++] = 64, f[at++] = (uint8_t)p;
-    for (unsigned i = 0; i < p; i++) f[at++] = (uint8_t)calls;
-    f[at++] = (uint8_t)(p * calls / 256), f[at++] = (uint8_t)(p * calls);
-    for (unsigned k = 0; k < p * calls; k++) {
-        unsigned code = 1 + random_below(last_code);
-        f[at++] = (uint8_t)code;
-        f[at++] = code == 1 ? (uint8_t)(node / 256) : 0;
-        f[at++] = code == 1 ? (uint8_t)node++ : code == 3 ? (uint8_t)random_below(p) : 0;
+static void bench_job(struct job *j, enum work work, const char *name, unsigned processes, unsigned calls, const char *codes, unsigned steps) {
+    static struct reply r;
+    j->work = work, j->name = name;
+    j->file_len = make_file(j->file, processes, calls, codes, steps);
+    j->log_len = scarpgoblet_run(j->file, j->file_len, j->log, sizeof j->log, r.report, r.table);
+}
+
+static void worst_job(struct job *j, unsigned which, unsigned entries) {
+    j->work = JUDGE, j->name = worst_name(which);
+    j->log_len = make_worst(j->log, which, entries);
+}
+
+static void make_job(struct job *j, unsigned k) {
+    switch (k) {
+    case 0: bench_job(j, RUN, "a full file (8 processes, 32 calls each, 4,096 steps)", 8, 32, "123", 4096); break;
+    case 1: bench_job(j, RUN, "a morning's file (3 processes, 10 calls each, 150 steps)", 3, 10, "123", 150); break;
+    case 2: bench_job(j, RUN, "four calls (2 processes, 2 calls each, 12 steps)", 2, 2, "123", 12); break;
+    case 3: bench_job(j, RUN, "256 pushes (8 processes, 32 pushes each, no step)", 8, 32, "1", 0); break;
+    case 4: bench_job(j, BOTH, "four calls (2 processes, 2 calls each, 12 steps)", 2, 2, "123", 12); break;
+    case 5: bench_job(j, JUDGE, "a full log (256 entries)", 8, 32, "123", 4096); break;
+    case 6: bench_job(j, JUDGE, "a full log of pushes and top pops", 8, 32, "13", 4096); break;
+    case 7: bench_job(j, JUDGE, "a morning's log (30 entries)", 3, 10, "123", 150); break;
+    case 8: bench_job(j, JUDGE, "four entries", 2, 2, "123", 16); break;
+    case 9: bench_job(j, JUDGE, "no entry", 1, 0, "1", 0); break;
+    default: worst_job(j, k - BENCH_JOBS, 256);
     }
-    f[at++] = (uint8_t)(steps / 256), f[at++] = (uint8_t)steps;
-    for (unsigned i = 0; i < steps; i++) f[at++] = (uint8_t)random_below(p);
-    return at;
 }
 
 static double now(void) {
@@ -58,21 +89,10 @@ static double now(void) {
     return (double)t.tv_sec * 1e9 + (double)t.tv_nsec;
 }
 
-static void ran(run_fn *run, const uint8_t *f, size_t len, struct reply *r) {
-    memset(r, 0, sizeof *r);
-    r->length = run(f, len, r->log, sizeof r->log, r->report, r->table);
-}
-
-static double run_time(run_fn *run, const uint8_t *f, size_t len) {
+static double time_of(const struct job *j, enum program p) {
     static struct reply r;
     double start = now();
-    for (unsigned i = 0; i < TIMES; i++) run(f, len, r.log, sizeof r.log, r.report, r.table);
-    return (now() - start) / TIMES;
-}
-
-static double judge_time(judge_fn *judge, const uint8_t *log, size_t len) {
-    double start = now();
-    for (unsigned i = 0; i < TIMES; i++) judge(log, len);
+    for (unsigned i = 0; i < TIMES; i++) do_job(j, p, &r);
     return (now() - start) / TIMES;
 }
 
@@ -80,42 +100,62 @@ static void least(double *x, double y) {
     if (y < *x) *x = y;
 }
 
-static int compare_runs(const char *name, unsigned p, unsigned calls, unsigned last_code, unsigned steps) {
-    static uint8_t f[FILE_MOST];
-    static struct reply proved, c, rust;
-    size_t len = make(f, p, calls, last_code, steps);
-    ran(scarpgoblet_run, f, len, &proved), ran(plain_run, f, len, &c), ran(second_run, f, len, &rust);
-    if (memcmp(&proved, &c, sizeof c) || memcmp(&proved, &rust, sizeof rust)) {
-        printf("%s: the replies differ\n", name);
+/* The least times of the programs up to the one given, in turn. */
+static void times_of(const struct job *j, enum program last, double times[PROGRAMS]) {
+    for (unsigned p = 0; p <= last; p++) times[p] = 1e18;
+    for (unsigned k = 0; k < ROUNDS * (last + 1); k++) least(&times[k % (last + 1)], time_of(j, k % (last + 1)));
+}
+
+static bool replies_agree(const struct job *j) {
+    static struct reply replies[PROGRAMS];
+    memset(replies, 0, sizeof replies);
+    for (unsigned p = 0; p < PROGRAMS; p++) do_job(j, p, &replies[p]);
+    return !memcmp(&replies[PROVED], &replies[C], sizeof *replies) && !memcmp(&replies[PROVED], &replies[RUST], sizeof *replies)
+        && replies[PROVED].number == 0;
+}
+
+static int compare(const struct job *j) {
+    double t[PROGRAMS];
+    if (!replies_agree(j)) {
+        printf("%s, %s: the replies differ, or the log is not accepted\n", work_names[j->work], j->name);
         return 1;
     }
-    double x = 1e18, y = 1e18, z = 1e18;
-    for (unsigned round = 0; round < ROUNDS; round++)
-        least(&x, run_time(scarpgoblet_run, f, len)), least(&y, run_time(plain_run, f, len)), least(&z, run_time(second_run, f, len));
-    printf("run, %s: proved %.0f ns, C %.0f ns, ratio %.2f; Rust %.0f ns, ratio %.2f\n", name, x, y, x / y, z, x / z);
+    times_of(j, RUST, t);
+    printf("%s, %s: proved %.0f ns; C %.0f ns, ratio %.2f; Rust %.0f ns, ratio %.2f\n", work_names[j->work], j->name, t[PROVED], t[C],
+           t[PROVED] / t[C], t[RUST], t[PROVED] / t[RUST]);
     return 0;
 }
 
-static int compare_judges(const char *name, unsigned p, unsigned calls, unsigned steps) {
-    static uint8_t f[FILE_MOST];
-    static struct reply r;
-    ran(scarpgoblet_run, f, make(f, p, calls, 3, steps), &r);
-    if (r.report[1] != p * calls || scarpgoblet_judge(r.log, r.length) != 0 || second_judge(r.log, r.length) != 0) {
-        printf("%s: not a log of that many entries, or not accepted\n", name);
-        return 1;
+static int compare_jobs(void) {
+    static struct job j;
+    int differ = 0;
+    for (unsigned k = 0; k < JOBS; k++) make_job(&j, k), differ |= compare(&j);
+    return differ;
+}
+
+/* A file of n calls, its log, or a worst log of n entries. */
+static void grown_job(struct job *j, unsigned k, unsigned n) {
+    if (k < 2) bench_job(j, k == 0 ? RUN : JUDGE, "8 processes, 16 steps a call", 8, n / 8, "123", 16 * n);
+    else worst_job(j, k - 2, n);
+}
+
+static void print_growth(unsigned k) {
+    static struct job j;
+    double t[PROGRAMS];
+    for (unsigned n = 8; n <= 256; n *= 2) {
+        grown_job(&j, k, n);
+        times_of(&j, C, t);
+        if (n == 8) printf("%s, %s, ns a call for 8, 16, .. 256 calls, proved (C):", work_names[j.work], j.name);
+        printf(" %.1f (%.1f)", t[PROVED] / n, t[C] / n);
     }
-    double x = 1e18, z = 1e18;
-    for (unsigned round = 0; round < ROUNDS; round++)
-        least(&x, judge_time(scarpgoblet_judge, r.log, r.length)), least(&z, judge_time(second_judge, r.log, r.length));
-    printf("judge, %s: proved %.0f ns; Rust %.0f ns, ratio %.2f\n", name, x, z, x / z);
-    return 0;
+    printf("\n");
 }
 
 static size_t make_rack(uint8_t *rack) {
     size_t at = 2;
     rack[0] = FILES / 256, rack[1] = FILES % 256;
     for (unsigned i = 0; i < FILES; i++) {
-        size_t len = make(rack + at + 2, 3, 10, 3, 150);
+        size_t len = make_file(rack + at + 2, 3, 10, "123", 150);
         rack[at] = (uint8_t)(len / 256), rack[at + 1] = (uint8_t)len;
         at += 2 + len;
     }
@@ -165,11 +205,24 @@ static int compare_racks(void) {
     return 0;
 }
 
-int main(void) {
-    return compare_runs("a full file (8 processes, 32 calls each, 4,096 steps)", 8, 32, 3, 4096)
-        | compare_runs("a morning's file (3 processes, 10 calls each, 150 steps)", 3, 10, 3, 150)
-        | compare_runs("256 pushes (8 processes, 32 pushes each, no step)", 8, 32, 1, 0)
-        | compare_judges("a full log (256 entries)", 8, 32, 4096)
-        | compare_judges("a morning's log (30 entries)", 3, 10, 150)
-        | compare_racks();
+/* Apart, so that a counter can be turned on at its beginning and off at its end. */
+__attribute__((noipa)) void counted(const struct job *j, enum program p, struct reply *r) {
+    for (unsigned i = 0; i < COUNTED; i++) do_job(j, p, r);
+}
+
+static int count(unsigned k, unsigned p) {
+    static struct job j;
+    static struct reply r;
+    if (k >= JOBS || p >= PROGRAMS) return 1;
+    make_job(&j, k);
+    counted(&j, p, &r);
+    printf("%s, %s\n", work_names[j.work], j.name);
+    return 0;
+}
+
+int main(int words, char **word) {
+    if (words == 4 && !strcmp(word[1], "count")) return count((unsigned)atoi(word[2]), (unsigned)atoi(word[3]));
+    int differ = compare_jobs() | compare_racks();
+    for (unsigned k = 0; k < 2 + WORST; k++) print_growth(k);
+    return differ;
 }
