@@ -1,6 +1,6 @@
 /* Times the proved bench and judge against plain ones in C and the second implementation, in Rust, on the same files and logs, and one call of
- * the rack against single calls, in turn, in one run, and prints the ratios; then how the times grow. `measure count JOB PROGRAM` does one job by
- * one program for a counter of instructions, and prints its name; where there is no such job it prints nothing. */
+ * the rack against single calls, in turn, in one run, and prints the ratios; then how the times grow. `measure count JOB PROGRAM TIMES` does
+ * one job by one program so many times, for a counter of instructions, and prints its name; exit status 1 where there is no such job. */
 #include "inputs.h"
 #include "plain.h"
 #include "scarpgoblet.h"
@@ -17,7 +17,7 @@ typedef uint32_t judge_fn(const uint8_t *, size_t);
 run_fn second_run;
 judge_fn second_judge;
 
-enum { ROUNDS = 40, TIMES = 50, COUNTED = 10, TABLE = 536, FILES = 300, REPLY = 8, BENCH_JOBS = 10, JOBS = BENCH_JOBS + WORST };
+enum { ROUNDS = 40, TIMES = 50, TABLE = 536, FILES = 300, REPLY = 8, BENCH_JOBS = 10, JOBS = BENCH_JOBS + WORST };
 
 enum program { PROVED, C, RUST, PROGRAMS };
 
@@ -30,6 +30,7 @@ enum work { RUN, JUDGE, BOTH };
 struct job {
     enum work work;
     const char *name;
+    unsigned calls;
     size_t file_len, log_len;
     uint8_t file[FILE_MOST], log[SCARPGOBLET_LOG_MOST];
 };
@@ -57,13 +58,13 @@ static void do_job(const struct job *j, enum program p, struct reply *r) {
 
 static void bench_job(struct job *j, enum work work, const char *name, unsigned processes, unsigned calls, const char *codes, unsigned steps) {
     static struct reply r;
-    j->work = work, j->name = name;
+    j->work = work, j->name = name, j->calls = processes * calls;
     j->file_len = make_file(j->file, processes, calls, codes, steps);
     j->log_len = scarpgoblet_run(j->file, j->file_len, j->log, sizeof j->log, r.report, r.table);
 }
 
 static void worst_job(struct job *j, unsigned which, unsigned entries) {
-    j->work = JUDGE, j->name = worst_name(which);
+    j->work = JUDGE, j->name = worst_name(which), j->calls = entries;
     j->log_len = make_worst(j->log, which, entries);
 }
 
@@ -77,7 +78,7 @@ static void make_job(struct job *j, unsigned k) {
     case 5: bench_job(j, JUDGE, "a full log (256 entries)", 8, 32, "123", 4096); break;
     case 6: bench_job(j, JUDGE, "a full log of pushes and top pops", 8, 32, "13", 4096); break;
     case 7: bench_job(j, JUDGE, "a morning's log (30 entries)", 3, 10, "123", 150); break;
-    case 8: bench_job(j, JUDGE, "four entries", 2, 2, "123", 16); break;
+    case 8: bench_job(j, JUDGE, "four entries", 2, 2, "123", 64); break;
     case 9: bench_job(j, JUDGE, "no entry", 1, 0, "1", 0); break;
     default: worst_job(j, k - BENCH_JOBS, 256);
     }
@@ -106,18 +107,19 @@ static void times_of(const struct job *j, enum program last, double times[PROGRA
     for (unsigned k = 0; k < ROUNDS * (last + 1); k++) least(&times[k % (last + 1)], time_of(j, k % (last + 1)));
 }
 
+/* Of all programs; and a log to judge has all its calls and is accepted, as its name says. */
 static bool replies_agree(const struct job *j) {
     static struct reply replies[PROGRAMS];
     memset(replies, 0, sizeof replies);
     for (unsigned p = 0; p < PROGRAMS; p++) do_job(j, p, &replies[p]);
     return !memcmp(&replies[PROVED], &replies[C], sizeof *replies) && !memcmp(&replies[PROVED], &replies[RUST], sizeof *replies)
-        && replies[PROVED].number == 0;
+        && (j->work == RUN || replies[PROVED].number == 0) && (j->work != JUDGE || j->log_len == 5 + 12 * j->calls);
 }
 
 static int compare(const struct job *j) {
     double t[PROGRAMS];
     if (!replies_agree(j)) {
-        printf("%s, %s: the replies differ, or the log is not accepted\n", work_names[j->work], j->name);
+        printf("%s, %s: the replies differ, or the log is not accepted or lacks calls\n", work_names[j->work], j->name);
         return 1;
     }
     times_of(j, RUST, t);
@@ -205,23 +207,18 @@ static int compare_racks(void) {
     return 0;
 }
 
-/* Apart, so that a counter can be turned on at its beginning and off at its end. */
-__attribute__((noipa)) void counted(const struct job *j, enum program p, struct reply *r) {
-    for (unsigned i = 0; i < COUNTED; i++) do_job(j, p, r);
-}
-
-static int count(unsigned k, unsigned p) {
+static int count(unsigned k, unsigned p, unsigned times) {
     static struct job j;
     static struct reply r;
     if (k >= JOBS || p >= PROGRAMS) return 1;
     make_job(&j, k);
-    counted(&j, p, &r);
+    for (unsigned i = 0; i < times; i++) do_job(&j, p, &r);
     printf("%s, %s\n", work_names[j.work], j.name);
     return 0;
 }
 
 int main(int words, char **word) {
-    if (words == 4 && !strcmp(word[1], "count")) return count((unsigned)atoi(word[2]), (unsigned)atoi(word[3]));
+    if (words == 5 && !strcmp(word[1], "count")) return count((unsigned)atoi(word[2]), (unsigned)atoi(word[3]), (unsigned)atoi(word[4]));
     int differ = compare_jobs() | compare_racks();
     for (unsigned k = 0; k < 2 + WORST; k++) print_growth(k);
     return differ;

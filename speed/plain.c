@@ -23,7 +23,7 @@ struct run {
     uint8_t *entry;
 };
 
-static unsigned two(const uint8_t *at) { return 256u * at[0] + at[1]; }
+static inline unsigned two(const uint8_t *at) { return (unsigned)at[0] << 8 | at[1]; }
 
 /* The number that refuses the calls, 0 for none. */
 static unsigned check_calls(const uint8_t *call, unsigned n, unsigned p) {
