@@ -173,12 +173,12 @@ static unsigned finish(struct run *r, unsigned p, unsigned n) {
 
 static void begin(struct run *r, const uint8_t *f, unsigned p) {
     const uint8_t *call = f + 6 + p;
-    memset(r->processes, 0, sizeof r->processes);
+    memset(r->processes, 0, p * sizeof *r->processes);
     memset(r->resets, 0, sizeof r->resets);
-    r->mask = (1u << f[1]) - 1, r->size = f[2], r->live = 255, r->gone = 0;
-    for (unsigned i = 0; i < 8; i++) {
+    r->mask = (1u << f[1]) - 1, r->size = f[2], r->live = (1u << p) - 1, r->gone = 0;
+    for (unsigned i = 0; i < p; i++) {
         r->processes[i].next = call;
-        r->processes[i].stop = call += i < p ? 3 * f[4 + i] : 0;
+        r->processes[i].stop = call += 3 * f[4 + i];
         load(r, i);
     }
 }
