@@ -211,7 +211,7 @@ static int count(unsigned k, unsigned p, unsigned times) {
     static struct job j;
     static struct reply r;
     if (k >= JOBS || p >= PROGRAMS) return 1;
-    make_job(&j, k);
+    for (unsigned i = 0; i <= k; i++) make_job(&j, i); /* in turn, for the same bytes as are timed */
     for (unsigned i = 0; i < times; i++) do_job(&j, p, &r);
     printf("%s, %s\n", work_names[j.work], j.name);
     return 0;
