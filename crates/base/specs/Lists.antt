@@ -4,10 +4,10 @@ use mathlib.Core.Path.{_≡_}
 use mathlib.Core.Logic.{_⊎_}
 use mathlib.Core.List.{List, [], _∷_}
 
--- the first n values of f
+-- the first n values of f; by the `let` a value is computed where it is read, and not with the list
 abbrev pub listOf : {A : Type 0} → ℕ → (ℕ → A) → List A
 listOf zero f = []
-listOf (suc n) f = f zero ∷ listOf n (λ i. f (suc i))
+listOf (suc n) f = let first = f zero in first ∷ listOf n (λ i. f (suc i))
 
 -- a stands in the list
 abbrev pub In : {A : Type 0} → A → List A → Type 0

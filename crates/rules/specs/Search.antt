@@ -3,10 +3,10 @@ use Prim.Native.Nat.{ℕ, zero, suc, _+_, _-_}
 use mathlib.Core.Bool.{Bool, cond, _&&_}
 use lib.Dec.{ltb}
 
--- the first of i, i + 1, .. (k of them) that passes, or i + k
+-- the first of i, i + 1, .. (k of them) that passes, or i + k; by the `let` no later one is looked at
 abbrev pub first : (ℕ → Bool) → ℕ → ℕ → ℕ
 first p i zero = i
-first p i (suc k) = cond (p i) i (first p (suc i) k)
+first p i (suc k) = let later = first p (suc i) k in cond (p i) i later
 
 -- whether one below n passes
 abbrev pub any : (ℕ → Bool) → ℕ → Bool

@@ -35,7 +35,9 @@ closingStep W C s =
 unfoldable pub close : ℕ → ℕ → ℕ → State → State
 unfolding act
 close W C zero s = s
-close W C (suc k) s = cond (ltb (lowest (s .bench .processes)) queueCount) (close W C k (closingStep W C s)) s
+close W C (suc k) s =
+    let later : State = close W C k (closingStep W C s) in
+    cond (ltb (lowest (s .bench .processes)) queueCount) later s
 
 -- eight calls are half-done at most, and a half-done call has at most six steps left
 abbrev pub closingSteps : ℕ

@@ -139,7 +139,8 @@ unfolding act
 lentClosing W C zero s = []
 lentClosing W C (suc k) s =
     let p : ℕ = lowest (s .bench .processes) in
-    cond (ltb p 8) (lentWith p (processAt (s .bench) p) ∷ lentClosing W C k (closingStep W C s)) []
+    let later : List Lent = lentWith p (processAt (s .bench) p) ∷ lentClosing W C k (closingStep W C s) in
+    cond (ltb p 8) later []
 
 unfoldable pub lentBy : RunFile → List Lent
 unfolding lentPlaying lentClosing play
