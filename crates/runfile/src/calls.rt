@@ -6,12 +6,12 @@ ghost use Rattle.runfile.specs.File.{callOf, codedAt, callAt, firstCalls
 ghost use Rattle.runfile.specs.inner.Marks.{Marks};
 use crate::Call;
 use crate::Coded;
-use crate::marks::MARK_BYTES;
-use crate::marks::mark;
 use crate::places::call_place;
 use base::byte_at;
 use base::number_at;
 use base::u8_to_u16;
+use marks::MARK_BYTES;
+use marks::mark;
 
 // The codes of a call.
 const PUSH: u8 = 1;

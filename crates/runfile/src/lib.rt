@@ -2,7 +2,6 @@
 ghost use Rattle.runfile.specs.File.{Reads};
 
 mod calls; // section 3's calls, each by its code and argument
-mod marks; // which nodes are pushed by the calls looked at so far
 mod places; // where the bytes stand
 mod sections; // what refuses a section, and a file
 

@@ -10,7 +10,7 @@ use Rattle.runfile.proofs.MarkLaws.{push-wrong, after-push, after-other
 use Rattle.runfile.proofs.calls.wrong_call.Statement.{statement}
 use Rattle.runfile.proofs.calls.wrong_call.Tie as tie
 use Rattle.runfile.proofs.calls.coded_at.Reads as coded-at-reads
-use Rattle.runfile.proofs.marks.mark.Reads as mark-reads
+use Rattle.marks.proofs.mark.Reads as mark-reads
 
 returns : tie.Need-returns
 returns c =

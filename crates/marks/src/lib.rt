@@ -1,12 +1,12 @@
 // The table of marks: a bit for each node, so that a repeat is found without a second look at the calls before it.
 ghost use mathlib.Core.Path.{_≡_};
-ghost use Rattle.runfile.specs.inner.Marks.{marked, withMark};
+ghost use Rattle.marks.specs.inner.Marks.{marked, withMark};
 use base::u16_to_usize;
 
-pub(crate) const MARK_BYTES: usize = 8192;
+pub const MARK_BYTES: usize = 8192;
 
 // Marks a node; whether it was marked before.
-pub(crate) fn mark(marks: &mut [u8; MARK_BYTES], node: u16) -> bool
+pub fn mark(marks: &mut [u8; MARK_BYTES], node: u16) -> bool
     ensures { λ r. ⌜ (r ≡ marked (now (marks .entry)) node) × (now (marks .exit) ≡ withMark (now (marks .entry)) node) ⌝ }
 {
     let at = u16_to_usize(node / 8);

@@ -9,9 +9,9 @@ use lib.Dec.{eqb}
 use lib.ListN.{set}
 use lib.Pow.{shl-exact}
 use Rattle.base.specs.Bytes.{byteAt}
-use Rattle.runfile.specs.inner.Marks.{bit}
-use Rattle.runfile.proofs.marks.mark.Statement.{statement}
-use Rattle.runfile.proofs.marks.mark.Tie as tie
+use Rattle.marks.specs.inner.Marks.{bit}
+use Rattle.marks.proofs.mark.Statement.{statement}
+use Rattle.marks.proofs.mark.Tie as tie
 use Rattle.base.proofs.u16_to_usize.Reads as u16-to-usize-reads
 
 returns : tie.Need-returns
