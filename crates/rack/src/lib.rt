@@ -2,9 +2,9 @@
 ghost use mathlib.Core.Path.{_≡_};
 ghost use Prim.Native.Nat.{_%_};
 ghost use Rattle.base.specs.Bytes.{putAt};
-ghost use Rattle.rack.specs.Rack.{judged as judgedOf, rackOf, replyBytes};
-ghost use Rattle.rack.specs.Promise.{Racked};
-ghost use Rattle.rack.specs.inner.Walk.{isRack, RunsOne, Checked, RunsAll};
+ghost use Rattle.racks.specs.Rack.{judged as judgedOf, rackOf, replyBytes};
+ghost use Rattle.racks.specs.Promise.{Racked};
+ghost use Rattle.racks.specs.inner.Walk.{isRack, RunsOne, Checked, RunsAll};
 
 // A reply has number, three counts of two bytes, and the judge's number.
 const REPLY_LENGTH: usize = 8;

@@ -3,7 +3,7 @@ use Prim.Native.Nat.{_-_}
 use native.Mathlib.Omega.{arith}
 use borrow.Author.Needs.{needs}
 use mathlib.Core.Path.{_∙_}
-use Rattle.rack.proofs.SplitLaws.{Walked, no-count, walked-start, walked-stops, walked-next, walked-ends}
+use Rattle.racks.proofs.SplitLaws.{Walked, no-count, walked-start, walked-stops, walked-next, walked-ends}
 use Rattle.rack.proofs.is_rack.Statement.{statement}
 use Rattle.rack.proofs.is_rack.Tie as tie
 

@@ -5,7 +5,7 @@ use mathlib.Core.List.{List}
 use borrow.Author.Needs.{needs}
 use lib.Seq.{length-take-le}
 use Rattle.base.specs.Bytes.{putAt}
-use Rattle.rack.proofs.ReplyLaws.{number-fits, written-fits, reply-is}
+use Rattle.racks.proofs.ReplyLaws.{number-fits, written-fits, reply-is}
 use Rattle.rack.proofs.one.Statement.{statement}
 use Rattle.rack.proofs.one.Tie as tie
 

@@ -3,7 +3,7 @@ use mathlib.Core.Path.{sym, _∙_}
 use borrow.Author.Needs.{needs}
 use borrow.Author.Tests.{not-true, not-false}
 use native.Mathlib.Omega.{arith}
-use Rattle.rack.proofs.AnswerLaws.{gives-21, gives-22, gives-0}
+use Rattle.racks.proofs.AnswerLaws.{gives-21, gives-22, gives-0}
 use Rattle.rack.proofs.rack.Statement.{statement}
 use Rattle.rack.proofs.rack.Tie as tie
 

@@ -3,7 +3,7 @@ use Prim.Native.Nat.{_-_}
 use mathlib.Core.Path.{_∙_}
 use native.Mathlib.Omega.{arith}
 use borrow.Author.Needs.{needs}
-use Rattle.rack.proofs.RunLaws.{Along, along-start, replies-kept, file-fits, along-next, along-all}
+use Rattle.racks.proofs.RunLaws.{Along, along-start, replies-kept, file-fits, along-next, along-all}
 use Rattle.rack.proofs.run_all.Statement.{statement}
 use Rattle.rack.proofs.run_all.Tie as tie
 

@@ -8,7 +8,7 @@ use Rattle.log.specs.Encode.{logBytes}
 use Rattle.rules.specs.Contents.{before}
 use Rattle.runs.specs.Run.{runOf}
 use Rattle.runs.specs.Worked.{K1, K4, K8}
-use Rattle.rack.specs.Rack.{Answer, refusal, rackOf, rackBytes, answerTo}
+use Rattle.racks.specs.Rack.{Answer, refusal, rackOf, rackBytes, answerTo}
 
 -- the buffers as lent: a log filled with 238, replies filled with 221
 abbrev lent : List ℕ → ℕ → ℕ → Answer

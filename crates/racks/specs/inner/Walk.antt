@@ -7,7 +7,7 @@ use lib.ListN.{length, drop}
 use Rattle.base.specs.Bytes.{numberAt, putAt}
 use Rattle.runs.specs.Promise.{bufferOf}
 use Rattle.runs.specs.Run.{runOf}
-use Rattle.rack.specs.Rack.{Split, bad, files, rackOf, replyLength, replyOf, repliesOf, logAfter}
+use Rattle.racks.specs.Rack.{Split, bad, files, rackOf, replyLength, replyOf, repliesOf, logAfter}
 
 abbrev pub isRack : Split → Bool
 isRack bad = false

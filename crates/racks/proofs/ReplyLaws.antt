@@ -10,7 +10,7 @@ use Rattle.runs.specs.Promise.{Gives}
 use Rattle.runs.specs.Run.{Outcome, runOf}
 use Rattle.runs.proofs.InRange.{run-cases}
 use Rattle.runs.proofs.PromiseLaws.{front-is}
-use Rattle.rack.specs.Rack.{judged, judgeByte, replyBytes, replyTo}
+use Rattle.racks.specs.Rack.{judged, judgeByte, replyBytes, replyTo}
 
 -- a run's number fits a byte
 pub number-fits : (file : List ℕ) → Bytes file → (room : ℕ) → runOf file room .number < 256

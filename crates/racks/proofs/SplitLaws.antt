@@ -12,8 +12,8 @@ use Rattle.base.specs.Bytes.{numberAt, part}
 use Rattle.base.proofs.Bools.{by-both}
 use Rattle.base.proofs.Bytes.{numberAt-drop}
 use Rattle.base.proofs.Cases.{never, either-way}
-use Rattle.rack.specs.Rack.{Split, bad, files, before, fileEnd, filesIn, rackOf}
-use Rattle.rack.specs.inner.Walk.{isRack, filesOf}
+use Rattle.racks.specs.Rack.{Split, bad, files, before, fileEnd, filesIn, rackOf}
+use Rattle.racks.specs.inner.Walk.{isRack, filesOf}
 
 -- what splits, splits into its files
 pub is-files : (x : Split) → isRack x ≡ true → x ≡ files (filesOf x)

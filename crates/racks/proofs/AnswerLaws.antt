@@ -9,10 +9,10 @@ use lib.Dec.{ltb}
 use lib.ListN.{length}
 use Rattle.base.specs.Bytes.{numberAt}
 use Rattle.base.proofs.Cases.{never, ever}
-use Rattle.rack.specs.Promise.{Gives, Racked}
-use Rattle.rack.specs.Rack.{Split, bad, files, Answer, rackOf, replyLength, refusal, answered, answerTo}
-use Rattle.rack.specs.inner.Walk.{isRack, filesOf, RunsAll}
-use Rattle.rack.proofs.SplitLaws.{rack-counted}
+use Rattle.racks.specs.Promise.{Gives, Racked}
+use Rattle.racks.specs.Rack.{Split, bad, files, Answer, rackOf, replyLength, refusal, answered, answerTo}
+use Rattle.racks.specs.inner.Walk.{isRack, filesOf, RunsAll}
+use Rattle.racks.proofs.SplitLaws.{rack-counted}
 
 module _ (log replies : List ℕ) where
   refused-21 : (x : Split) → isRack x ≡ false → Gives (answerTo x log replies) 21 log replies

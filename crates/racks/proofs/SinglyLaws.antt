@@ -4,9 +4,9 @@ use mathlib.Core.Path.{_≡_, ap, _∙_}
 use mathlib.Core.List.{List, [], _∷_, _++_}
 use lib.ListN.{length, getD}
 use Rattle.runs.specs.Run.{runOf}
-use Rattle.rack.specs.Rack.{unlessRefused, replyOf, repliesOf, logAfter}
-use Rattle.rack.specs.Singly.{Single, AsSingly}
-use Rattle.rack.proofs.ReplyLaws.{told-as}
+use Rattle.racks.specs.Rack.{unlessRefused, replyOf, repliesOf, logAfter}
+use Rattle.racks.specs.Singly.{Single, AsSingly}
+use Rattle.racks.proofs.ReplyLaws.{told-as}
 
 single : (file log log′ reply : List ℕ) → Single file log log′ reply → reply ≡ replyOf (length log) file
 single file log log′ reply s =

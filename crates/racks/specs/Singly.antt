@@ -6,7 +6,7 @@ use lib.ListN.{length, getD, take}
 use Rattle.rules.specs.Judge.{judgeOf}
 use Rattle.rules.specs.declared.Verdict.{Verdict}
 use Rattle.runs.specs.Promise.{Ran}
-use Rattle.rack.specs.Rack.{unlessRefused, replyBytes, repliesOf, logAfter}
+use Rattle.racks.specs.Rack.{unlessRefused, replyBytes, repliesOf, logAfter}
 
 -- a file run by `run_len`, and the front part of the buffer judged by `judge`: all that is used of them is what they promise, and that a lent buffer
 -- keeps its length

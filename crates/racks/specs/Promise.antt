@@ -2,7 +2,7 @@
 use Prim.Native.Nat.{ℕ}
 use mathlib.Core.Path.{_≡_}
 use mathlib.Core.List.{List}
-use Rattle.rack.specs.Rack.{Answer, rackOf, answerTo}
+use Rattle.racks.specs.Rack.{Answer, rackOf, answerTo}
 
 pub record Gives (a : Answer) (number : ℕ) (log′ replies′ : List ℕ) : Type 0 where
   pub numbered : number ≡ a .number

@@ -9,9 +9,9 @@ use Rattle.base.specs.Bytes.{numberAt, part, putAt}
 use Rattle.base.proofs.Bytes.{numberAt-drop, put-after}
 use Rattle.runs.specs.Promise.{bufferOf}
 use Rattle.runs.specs.Run.{runOf}
-use Rattle.rack.specs.Rack.{files, fileEnd, filesIn, rackOf, replyLength, replyOf, repliesOf, logAfter}
-use Rattle.rack.specs.inner.Walk.{filesOf, RunsOne, Checked, RunsAll}
-use Rattle.rack.proofs.SplitLaws.{Opened, opened, ended, rack-opens, rack-counted}
+use Rattle.racks.specs.Rack.{files, fileEnd, filesIn, rackOf, replyLength, replyOf, repliesOf, logAfter}
+use Rattle.racks.specs.inner.Walk.{filesOf, RunsOne, Checked, RunsAll}
+use Rattle.racks.proofs.SplitLaws.{Opened, opened, ended, rack-opens, rack-counted}
 
 -- what the loop over the files keeps, i files on
 pub record Along (s log₀ replies₀ : List ℕ) (count : ℕ) (log replies : List ℕ) (at place i : ℕ) : Type 0 where
