@@ -1,22 +1,25 @@
 -- Laws of the start's shares and of the final table, as the program takes them.
-use Prim.Native.Nat.{ℕ, zero, suc, _+_, _-_, _*_, _/_, _%_, _≤_, _<_}
+use Prim.Native.Nat.{ℕ, suc, _+_, _-_, _*_, _/_, _%_, _≤_, _<_}
 use mathlib.Core.Path.{_≡_, refl, sym, ap, _∙_}
-use mathlib.Core.List.{List, [], _∷_, _++_}
-use native.Mathlib.Numerals.{add-one}
+use mathlib.Core.List.{List, [], _++_}
 use native.Mathlib.Omega.{arith}
-use lib.ListN.{length, getD, take, drop, set, length-take, List·getD-eq-default}
-use lib.Seq.{take-take, take-all, take-suc-set}
-use borrow.Author.Tests.{lt-ltb, le-ltb}
+use native.Mathlib.Decide.{decLt, ℕ-discrete}
+use lib.ListN.{length, getD, take, drop, set, replicate, length-append, length-take, length-drop, length-set}
+use lib.ListN.{getD-replicate, List·getD-append, List·getD-eq-default}
+use lib.Seq.{sets-eq, take-take, take-all, length-take-le, getD-take, getD-drop, getD-append-add, ext-getD}
+use borrow.Author.Tests.{lt-ltb, le-ltb, le-leb}
+use Rattle.base.specs.Bytes.{putAt}
 use Rattle.base.specs.Lists.{listOf}
+use Rattle.base.proofs.Lists.{listOf-length, listOf-getD}
 use Rattle.word.specs.declared.Word.{Word}
 use Rattle.queue.specs.Packed.{unpacked}
 use Rattle.runfile.specs.Check.{sum}
 use Rattle.runfile.specs.File.{firstLengths, callsBefore}
-use Rattle.runs.specs.State.{Queue}
+use Rattle.runs.specs.State.{Queue, Bench, queueAt}
+use Rattle.runs.specs.Run.{tableRow, tableAt}
 use Rattle.bench.specs.declared.Bench.{Bench as HeldBench}
 use Rattle.bench.specs.inner.Layout.{freshHeld, benchIn, slotsOf, slotsIn}
-use Rattle.bench.proofs.LayoutLaws.{slots-get, slot, queue-is}
-use Rattle.runs.specs.Run.{tableRow, inTable, tableAt}
+use Rattle.bench.proofs.LayoutLaws.{slots-get, queue-is}
 
 -- the calls before those of process p
 pub shares-below : (s : List ℕ) (P p : ℕ) → p < P → sum (take p (firstLengths s P)) ≡ callsBefore s p
@@ -25,42 +28,119 @@ shares-below s P p h = ap sum (take-take p P (drop 4 s) (omega arith))
 pub shares-past : (s : List ℕ) (P p : ℕ) → P ≤ p → sum (take p (firstLengths s P)) ≡ callsBefore s P
 shares-past s P p h = ap sum (take-all p (firstLengths s P) (omega (arith, length-take P (drop 4 s))))
 
--- number i of a queue's row, past bottom, top and tag
-row-past : (w : Word) (l : List ℕ) (i : ℕ) → (i ≡ 0 → ⊥) → (i ≡ 1 → ⊥) → (i ≡ 2 → ⊥) → getD (tableRow w l) i 0 ≡ getD l (i - 3) 0
-row-past w l zero a b c = absurd (a refl)
-row-past w l (suc zero) a b c = absurd (b refl)
-row-past w l (suc (suc zero)) a b c = absurd (c refl)
-row-past w l (suc (suc (suc i))) a b c = let e : suc (suc (suc i)) - 3 ≡ i = omega arith in ap (λ (j : ℕ). getD l j 0) (sym e)
+-- numbers put into a list, by places
+module _ (at : ℕ) (xs l : List ℕ) (h : at + length xs ≤ length l) where
+  put-is : putAt at xs l ≡ take at l ++ xs ++ drop (at + length xs) l
+  put-is = rw (le-leb (at + length xs) (length l) h)
 
-module _ (w : Word) (C : ℕ) (flat : List ℕ) (q i : ℕ) (a : i ≡ 0 → ⊥) (b : i ≡ 1 → ⊥) (c : i ≡ 2 → ⊥) where
-  pub row-slot : i - 3 < C → getD flat (C * q + (i - 3)) 0 ≡ getD (tableRow w (slotsOf C flat q)) i 0
-  row-slot h = sym (row-past w (slotsOf C flat q) i a b c ∙ slot C flat q (i - 3) h)
+  front : length (take at l) ≡ at
+  front = length-take-le at l (omega arith)
 
-  pub row-end : C ≤ i - 3 → 0 ≡ getD (tableRow w (slotsOf C flat q)) i 0
-  row-end h =
-      sym (row-past w (slotsOf C flat q) i a b c ∙ List·getD-eq-default (slotsOf C flat q) 0 {n = i - 3} (omega (arith, length-take C (drop (C * q) flat))))
+  both : length (take at l ++ xs) ≡ at + length xs
+  both = omega (arith, length-append (take at l) xs, front)
 
--- number i of a queue's row in the table
-module _ (P C : ℕ) (w : Word) (flat : List ℕ) (q i : ℕ) where
-  pub table-in : P ≤ 8 → q < P → getD (tableRow w (slotsOf C flat q)) i 0 ≡ inTable P w (slotsIn C flat) q i
-  table-in most h = rw (lt-ltb q P h) (ap (λ (l : List ℕ). getD (tableRow w l) i 0) (sym (slots-get C flat q (omega arith))))
+  put-length : length (putAt at xs l) ≡ length l
+  put-length = ap length put-is ∙ omega (arith, length-append (take at l ++ xs) (drop (at + length xs) l), both, length-drop (at + length xs) l)
 
-  pub table-past : P ≤ q → 0 ≡ inTable P w (slotsIn C flat) q i
-  table-past h = rw (le-ltb q P h)
+  put-before : (k : ℕ) → k < at → getD (putAt at xs l) k 0 ≡ getD l k 0
+  put-before k m =
+      ap (λ (x : List ℕ). getD x k 0) put-is
+      ∙ List·getD-append (take at l ++ xs) (drop (at + length xs) l) 0 k (omega (arith, both))
+      ∙ List·getD-append (take at l) xs 0 k (omega (arith, front)) ∙ getD-take at l k 0 m
 
--- a list filled from the front
-module _ (f : ℕ → ℕ) where
-  one-more : (n : ℕ) (g : ℕ → ℕ) → listOf (suc n) g ≡ listOf n g ++ (g n ∷ [])
-  one-more zero g = refl
-  one-more (suc n) g = ap (λ (l : List ℕ). g 0 ∷ l) (one-more n (λ i. g (suc i)))
+  put-in : (k : ℕ) → k < length xs → getD (putAt at xs l) (at + k) 0 ≡ getD xs k 0
+  put-in k m =
+      ap (λ (x : List ℕ). getD x (at + k) 0) put-is
+      ∙ List·getD-append (take at l ++ xs) (drop (at + length xs) l) 0 (at + k) (omega (arith, both))
+      ∙ ap (λ (i : ℕ). getD (take at l ++ xs) (i + k) 0) (sym front) ∙ getD-append-add (take at l) xs k 0
 
-  pub filled-next : (k : ℕ) (table : List ℕ) (v : ℕ) → k < length table → take k table ≡ listOf k f → v ≡ f k → take (k + 1) (set table k v) ≡ listOf (k + 1) f
-  filled-next k table v h e d = rw (add-one, take-suc-set table k v h, e, d) (sym (one-more k f))
+  put-past : (k : ℕ) → getD (putAt at xs l) (at + length xs + k) 0 ≡ getD l (at + length xs + k) 0
+  put-past k =
+      ap (λ (x : List ℕ). getD x (at + length xs + k) 0) put-is
+      ∙ ap (λ (i : ℕ). getD (take at l ++ xs ++ drop (at + length xs) l) (i + k) 0) (sym both)
+      ∙ getD-append-add (take at l ++ xs) (drop (at + length xs) l) k 0 ∙ getD-drop (at + length xs) l k 0
 
-  pub filled : (k n : ℕ) (table : List ℕ) → length table ≡ n → n ≤ k → k ≤ n → take k table ≡ listOf k f → table ≡ listOf n f
-  filled k n table h l m e = let d : k ≡ n = omega arith in sym (take-all k table (omega arith)) ∙ e ∙ ap (λ (i : ℕ). listOf i f) d
+-- bottom, top and tag, put in number by number
+abbrev pub threeSet : List ℕ → ℕ → Word → List ℕ
+threeSet table from w = set (set (set table from (w .bottom)) (from + 1) (w .top)) (from + 2) (w .tag)
+
+module _ (table : List ℕ) (from : ℕ) (w : Word) where
+  pub three-set : length (threeSet table from w) ≡ length table
+  three-set = simp length-set refl
+
+  -- and then the slots: the row is put in
+  pub row-put : (slots : List ℕ) → from + length (tableRow w slots) ≤ length table
+      → putAt (from + 3) slots (threeSet table from w) ≡ putAt from (tableRow w slots) table
+  row-put slots h =
+      let e : from + 1 ≡ suc from = omega arith in
+      let f : from + 2 ≡ suc (suc from) = omega arith in
+      let g : from + 3 ≡ suc (suc (suc from)) = omega arith in
+      let l : from + 3 + length slots ≤ length (threeSet table from w) = omega (arith, three-set) in
+      put-is (from + 3) slots (threeSet table from w) l ∙ sym (sets-eq slots (threeSet table from w) (from + 3) l)
+      ∙ rw (e, f, g) (sets-eq (tableRow w slots) table from h) ∙ sym (put-is from (tableRow w slots) table h)
+
+-- a table in which the rows of the first n queues stand, and 0 elsewhere
+pub record Filled (n : ℕ) (b : Bench) (slots : List (List ℕ)) (table : List ℕ) : Type 0 where
+  pub whole : length table ≡ 536
+  pub places : (k : ℕ) → k < 536 → getD table k 0 ≡ tableAt n b slots k
+
+by-places : (n : ℕ) (f : ℕ → ℕ) (l : List ℕ) → length l ≡ n → ((k : ℕ) → k < n → getD l k 0 ≡ f k) → l ≡ listOf n f
+by-places n f l e g = ext-getD 0 l (listOf n f) (e ∙ sym (listOf-length n f)) (λ k h. g k (omega arith) ∙ sym (listOf-getD n f 0 k (omega arith)))
+
+module _ (b : Bench) (slots : List (List ℕ)) where
+  within : (n k : ℕ) → k / 67 < n → tableAt n b slots k ≡ getD (tableRow (queueAt b (k / 67) .word) (getD slots (k / 67) [])) (k % 67) 0
+  within n k h = rw (lt-ltb (k / 67) n h)
+
+  beyond : (n k : ℕ) → n ≤ k / 67 → tableAt n b slots k ≡ 0
+  beyond n k h = rw (le-ltb (k / 67) n h)
+
+  pub none-filled : Filled 0 b slots (replicate 536 0)
+  none-filled = record { whole = refl; places = λ k h. getD-replicate 536 k 0 0 h ∙ sym (beyond 0 k (omega arith)) }
+
+  pub all-filled : (n q : ℕ) (table : List ℕ) → q ≡ n → Filled q b slots table → table ≡ listOf 536 (tableAt n b slots)
+  all-filled n q table e f = by-places 536 (tableAt n b slots) table (f .whole) (λ k h. f .places k h ∙ ap (λ (i : ℕ). tableAt i b slots k) e)
+
+  module _ (q : ℕ) (row table : List ℕ) (e : row ≡ tableRow (queueAt b q .word) (getD slots q [])) (f : Filled q b slots table)
+      (room : 67 * q + length row ≤ 536) (small : length row ≤ 67) where
+    fits : 67 * q + length row ≤ length table
+    fits = omega (arith, f .whole)
+
+    inside : (k : ℕ) → k / 67 ≡ q → tableAt (q + 1) b slots k ≡ getD row (k % 67) 0
+    inside k d =
+        within (q + 1) k (omega arith) ∙ ap (λ (i : ℕ). getD (tableRow (queueAt b i .word) (getD slots i [])) (k % 67) 0) d
+        ∙ ap (λ (l : List ℕ). getD l (k % 67) 0) (sym e)
+
+    above : (k : ℕ) → 67 * q + length row ≤ k → Dec (k / 67 ≡ q) → tableAt (q + 1) b slots k ≡ 0
+    above k l (yes d) = inside k d ∙ List·getD-eq-default row 0 {n = k % 67} (omega arith)
+    above k l (no d) = beyond (q + 1) k (omega arith)
+
+    place : (k : ℕ) → k < 536 → Dec (k < 67 * q) → Dec (k < 67 * q + length row) → getD (putAt (67 * q) row table) k 0 ≡ tableAt (q + 1) b slots k
+    place k m (yes p) r = put-before (67 * q) row table fits k p ∙ f .places k m ∙ within q k (omega arith) ∙ sym (within (q + 1) k (omega arith))
+    place k m (no p) (yes r) =
+        let d : k ≡ 67 * q + k % 67 = omega arith in
+        ap (λ (i : ℕ). getD (putAt (67 * q) row table) i 0) d ∙ put-in (67 * q) row table fits (k % 67) (omega arith) ∙ sym (inside k (omega arith))
+    place k m (no p) (no r) =
+        let d : k ≡ 67 * q + length row + (k - (67 * q + length row)) = omega arith in
+        ap (λ (i : ℕ). getD (putAt (67 * q) row table) i 0) d ∙ put-past (67 * q) row table fits (k - (67 * q + length row))
+        ∙ ap (λ (i : ℕ). getD table i 0) (sym d) ∙ f .places k m ∙ beyond q k (omega arith) ∙ sym (above k (omega arith) (ℕ-discrete (k / 67) q))
+
+    pub row-filled : Filled (q + 1) b slots (putAt (67 * q) row table)
+    row-filled = record {
+      whole = put-length (67 * q) row table fits ∙ f .whole;
+      places = λ k h. place k h (decLt k (67 * q)) (decLt k (67 * q + length row));
+    }
+
+-- the slots of queue q in the row of all slots
+module _ (C : ℕ) (flat : List ℕ) (q : ℕ) where
+  part-is : take (C * q + C - C * q) (drop (C * q) flat) ≡ slotsOf C flat q
+  part-is = let e : C * q + C - C * q ≡ C = omega arith in ap (λ (n : ℕ). take n (drop (C * q) flat)) e
+
+  pub part-slots : q < 8 → take (C * q + C - C * q) (drop (C * q) flat) ≡ getD (slotsIn C flat) q []
+  part-slots h = part-is ∙ sym (slots-get C flat q h)
+
+  pub part-small : C ≤ 64 → length (take (C * q + C - C * q) (drop (C * q) flat)) ≤ 64
+  part-small h = omega (arith, ap length part-is, length-take C (drop (C * q) flat))
 
 -- the word of a queue in the program's array is that of the queue that it stands for
-pub held-row : (P : ℕ) (b : HeldBench) (slots : List (List ℕ)) (k : ℕ)
-    → inTable P (unpacked (getD (b .queues) (k / 67) freshHeld .word)) slots (k / 67) (k % 67) ≡ tableAt P (benchIn b) slots k
-held-row P b slots k = ap (λ (m : Queue). inTable P (m .word) slots (k / 67) (k % 67)) (sym (queue-is b (k / 67)))
+pub held-word : (b : HeldBench) (q : ℕ) → unpacked (getD (b .queues) q freshHeld .word) ≡ queueAt (benchIn b) q .word
+held-word b q = sym (ap (λ (m : Queue). m .word) (queue-is b q))

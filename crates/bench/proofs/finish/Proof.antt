@@ -1,13 +1,12 @@
 -- `finish` meets its contract.
 use borrow.Author.Needs.{needs}
-use Rattle.bench.proofs.LayoutLaws.{held-queues}
 use Rattle.bench.proofs.finish.Statement.{statement}
 use Rattle.bench.proofs.finish.Tie as tie
 
 fill-requires : tie.Need-fill-requires
 fill-requires c κs =
     let s = c .before .before .before .before .before .before .before .before in
-    (s .pre .all-slots, s .pre .size, s .pre .processes, held-queues (s .args .state) _ (s .pre .counted), search needs)
+    (s .pre .all-slots, s .pre .size, s .pre .processes)
 
 pub finish-spec : {M : Type 1} → statement M
 finish-spec =

@@ -1,59 +1,87 @@
--- `table::fill` meets its contract.
-use Prim.Native.Nat.{ℕ, _-_, _≤_}
-use mathlib.Core.Path.{_≡_, refl, sym, _∙_}
-use borrow.Author.Needs.{needs}
-use lib.ListN.{length, take, length-set}
+-- The loop keeps: the rows of the first q queues stand in the table (`Filled`).
+use Prim.Native.Nat.{_+_, _-_, _*_, _≤_, _<_}
+use mathlib.Core.Path.{_≡_, ap, _∙_}
 use native.Mathlib.Omega.{arith}
-use Rattle.bench.proofs.TableLaws.{held-row, filled-next, filled}
-use Rattle.runs.specs.Run.{tableAt}
+use borrow.Author.Needs.{needs}
+use lib.ListN.{take, drop}
+use Rattle.word.specs.declared.Word.{Word}
+use Rattle.runs.specs.Run.{tableRow}
 use Rattle.bench.specs.inner.Layout.{benchIn, slotsIn}
-use Rattle.base.specs.Lists.{listOf}
+use Rattle.bench.proofs.LayoutLaws.{row-in}
+use Rattle.bench.proofs.TableLaws.{Filled, none-filled, row-filled, all-filled, part-slots, part-small, held-word}
 use Rattle.bench.proofs.table.fill.Statement.{statement}
 use Rattle.bench.proofs.table.fill.Tie as tie
 
 abbrev Inv-loop : tie.InvT-loop
-Inv-loop table₀ processes size slots state k₀ table k =
-    (k ≤ 536) × (length table ≡ 536) × (take k table ≡ listOf k (tableAt processes (benchIn state) (slotsIn size slots)))
+Inv-loop table₀ processes size slots state stride q₀ table q = (q ≤ processes) × Filled q (benchIn state) (slotsIn size slots) table
 
 abbrev μ-loop : tie.MeasureT-loop
-μ-loop table₀ processes size slots state k₀ table k = 536 - k
+μ-loop table₀ processes size slots state stride q₀ table q = processes - q
 
 loop-holds : tie.Need-loop-holds Inv-loop μ-loop
-loop-holds c = (omega arith, c .before .before .pre .4, refl)
+loop-holds c = let a = c .before .before .args in (omega arith, none-filled (benchIn (a .t4)) (slotsIn (a .size) (a .slots .now)))
 
 element-copy-out-queue : tie.Need-element-copy-out-queue Inv-loop μ-loop
-element-copy-out-queue c = omega (arith, c .loop-test .taken)
+element-copy-out-queue c = omega (arith, c .loop-test .taken, c .before .before .before .before .pre .2)
 
-in-table-requires : tie.Need-in-table-requires Inv-loop μ-loop
-in-table-requires c κs = (c .before .before .before .before .before .before .pre .0, c .before .before .before .before .before .before .pre .1, c .before .before .before .before .before .before .pre .2)
+mul-from : tie.Need-mul-from Inv-loop μ-loop
+mul-from c =
+    let s = c .before .before .before .before .before .before in
+    let q = c .before .before .before .loop .q in
+    let below : q < 8 = omega (arith, c .before .before .loop-test .taken, s .pre .2) in
+    omega (arith, row-in (s .args .size) q (s .pre .1) below)
 
-slice-write-table : tie.Need-slice-write-table Inv-loop μ-loop
-slice-write-table c = omega (arith, c .before .before .before .before .loop .inv .1, c .before .before .before .loop-test .taken)
+add-to : tie.Need-add-to Inv-loop μ-loop
+add-to c =
+    let s = c .before .before .before .before .before .before in
+    let q = c .before .before .before .loop .q in
+    let below : q < 8 = omega (arith, c .before .before .loop-test .taken, s .pre .2) in
+    omega (arith, row-in (s .args .size) q (s .pre .1) below)
 
-add-k : tie.Need-add-k Inv-loop μ-loop
-add-k c = omega (arith, c .before .before .before .loop-test .taken)
+mul-put-row : tie.Need-mul-put-row Inv-loop μ-loop
+mul-put-row c = omega (arith, c .before .before .before .loop-test .taken, c .before .before .before .before .before .before .before .pre .2)
 
-loop-less : tie.Need-loop-less Inv-loop μ-loop
-loop-less c = omega (arith, c .before .before .before .loop-test .taken)
+mul-put-row-2 : tie.Need-mul-put-row-2 Inv-loop μ-loop
+mul-put-row-2 c =
+    let s = c .before .before .before .before .before .before .before .before in
+    let q = c .before .before .before .before .before .loop .q in
+    let below : q < 8 = omega (arith, c .before .before .before .before .loop-test .taken, s .pre .2) in
+    omega (arith, row-in (s .args .size) q (s .pre .1) below)
+
+part-put-row-end : tie.Need-part-put-row-end Inv-loop μ-loop
+part-put-row-end c =
+    let s = c .before .before .before .before .before .before .before .before in
+    let q = c .before .before .before .before .before .loop .q in
+    let below : q < 8 = omega (arith, c .before .before .before .before .loop-test .taken, s .pre .2) in
+    omega (arith, row-in (s .args .size) q (s .pre .1) below, s .pre .0)
+
+put-row-requires : tie.Need-put-row-requires Inv-loop μ-loop
+put-row-requires c κs =
+    let s = c .before .before .before .before .before .before .before .before .before in
+    let l = c .before .before .before .before .before .before .loop in
+    let small = part-small (s .args .size) (s .args .slots .now) (l .q) (s .pre .1) in
+    omega (arith, c .before .before .before .before .before .loop-test .taken, s .pre .2, l .inv .1 .whole, small)
 
 loop-again : tie.Need-loop-again Inv-loop μ-loop
 loop-again c =
-    let s = c .before .before .before .before .before .before .before in
-    let l = c .before .before .before .before .loop in (
-      omega (arith, c .before .before .before .loop-test .taken),
-      length-set {A = ℕ} (l .table) (l .k) (c .in-table .result) ∙ l .inv .1,
-      filled-next (tableAt (s .args .processes) (benchIn (s .args .t4)) (slotsIn (s .args .size) (s .args .slots .now))) (l .k) (l .table) (c .in-table .result)
-          (omega (arith, l .inv .1, c .before .before .before .loop-test .taken)) (l .inv .2) (c .in-table .ensures ∙ held-row (s .args .processes) (s .args .t4) (slotsIn (s .args .size) (s .args .slots .now)) (l .k)),
-    )
-
-same-length : tie.Need-same-length Inv-loop μ-loop
-same-length c = c .before .loop .inv .1 ∙ sym (c .before .before .before .before .pre .4)
+    let s = c .before .before .before .before .before .before .before .before .before .before in
+    let a = s .args in
+    let l = c .before .before .before .before .before .before .before .loop in
+    let w = c .before .before .unpacked in
+    let part = take (a .size * l .q + a .size - a .size * l .q) (drop (a .size * l .q) (a .slots .now)) in
+    let below : l .q < 8 = omega (arith, c .before .before .before .before .before .before .loop-test .taken, s .pre .2) in
+    let small = part-small (a .size) (a .slots .now) (l .q) (s .pre .1) in
+    let words = ap (λ (x : Word). tableRow x part) (w .ensures ∙ held-word (a .t4) (l .q)) in
+    let row = words ∙ ap (tableRow _) (part-slots (a .size) (a .slots .now) (l .q) below) in
+    let filled = row-filled (benchIn (a .t4)) (slotsIn (a .size) (a .slots .now)) (l .q) (tableRow (w .result) part) (l .table) row (l .inv .1) in
+    (omega (arith, c .before .before .before .before .before .before .loop-test .taken), rw (c .put-row .ensures) (filled (omega arith) (omega arith)))
 
 returns : tie.Need-returns Inv-loop μ-loop
 returns c =
-    let s = c .before .before .before .before in
+    let a = c .before .before .before .before .args in
     let l = c .before .loop in
-    filled (tableAt (s .args .processes) (benchIn (s .args .t4)) (slotsIn (s .args .size) (s .args .slots .now))) (l .k) 536 (l .table) (l .inv .1) (c .loop-test .left) (l .inv .0) (l .inv .2)
+    let e : l .q ≡ a .processes = omega (arith, l .inv .0, c .loop-test .left) in
+    all-filled (benchIn (a .t4)) (slotsIn (a .size) (a .slots .now)) (a .processes) (l .q) (l .table) e (l .inv .1)
 
 pub fill-spec : {M : Type 1} → statement M
 fill-spec =
@@ -62,13 +90,18 @@ fill-spec =
     Inv-loop
     μ-loop
     loop-holds
-    (λ c. search needs)
+    (λ c. omega arith)
     element-copy-out-queue
-    in-table-requires
+    mul-from
+    add-to
+    mul-put-row
+    (λ c κs. search needs)
+    mul-put-row-2
+    (λ c. omega arith)
     (λ c. search needs)
-    slice-write-table
-    add-k
-    loop-less
+    part-put-row-end
+    put-row-requires
+    (λ c. omega arith)
+    (λ c. omega arith)
     loop-again
-    same-length
     returns)
