@@ -6,8 +6,7 @@ use Prim.Native.Nat.{ℕ, zero, suc, _+_, _<_, _≤_}
 use native.Mathlib.Numerals.{add-one}
 use native.Mathlib.Omega.{arith}
 use native.Mathlib.Decide.{decLt}
-use lib.ListN.{length, getD, take, drop, drop-of-length-le}
-use lib.Seq.{drop-cons}
+use lib.ListN.{length, getD, take}
 use Rattle.base.specs.Lists.{listOf}
 use Rattle.runfile.specs.Check.{_when_, _then_, any, firstOf, sum}
 
@@ -58,17 +57,7 @@ module _ (f : ℕ → ℕ) where
   first-all zero h = refl
   first-all (suc n) h = rw (first-all n (λ k lt. h k (omega arith)), h n (omega arith))
 
--- whether one of a list passes, from place i on
-module _ {A : Type 0} (p : A → Bool) (l : List A) (d : A) where
-  pub any-next : (i : ℕ) → i < length l → p (getD l i d) ≡ false → any p (drop (i + 1) l) ≡ any p (drop i l)
-  any-next i h e = rw (add-one, drop-cons l i d h, e)
-
-  pub any-found : (i : ℕ) → i < length l → p (getD l i d) ≡ true → true ≡ any p (drop i l)
-  any-found i h e = rw (drop-cons l i d h, e)
-
-  pub any-end : (i : ℕ) → length l ≤ i → false ≡ any p (drop i l)
-  any-end i h = rw (drop-of-length-le l {i = i} h)
-
+-- whether one of a list passes
 module _ {A : Type 0} (p : A → Bool) (d : A) where
   pub any-none : (l : List A) (k : ℕ) → any p l ≡ false → k < length l → p (getD l k d) ≡ false
   any-none [] k h lt = absurd (omega arith)
@@ -82,6 +71,15 @@ module _ {A : Type 0} (p : A → Bool) (d : A) where
       tail : (t : Bool) → (t || any p l) ≡ false → any p l ≡ false
       tail true e = absurd (let z : _≡_ {A = ℕ} 0 1 = cc in omega arith)
       tail false e = e
+
+  -- one place more
+  pub any-next : (l : List A) (i : ℕ) → i < length l → (any p (take i l) || p (getD l i d)) ≡ any p (take (i + 1) l)
+  any-next l i h = rw add-one (go l i h)
+    where
+      go : (l : List A) (i : ℕ) → i < length l → (any p (take i l) || p (getD l i d)) ≡ any p (take (suc i) l)
+      go [] i h = absurd (omega arith)
+      go (x ∷ l) zero h = sym (or-false (p x))
+      go (x ∷ l) (suc i) h = or-assoc (p x) _ _ ∙ ap (λ (t : Bool). p x || t) (go l i (omega arith))
 
   pub any-all : (l : List A) → ((k : ℕ) → k < length l → p (getD l k d) ≡ false) → any p l ≡ false
   any-all [] h = refl

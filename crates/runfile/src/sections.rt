@@ -38,19 +38,18 @@ fn is_outside(low: u8, high: u8, x: u8) -> bool
     high < x
 }
 
-// Whether one of so many bytes from a place on is the limit or more.
+// Whether one of so many bytes from a place on is the limit or more. The loop has no exit, so that many bytes are compared at once.
 fn reaches(file: &[u8], from: usize, count: usize, limit: u8) -> bool
     requires { ⌜ from + count ≤ length (now file) ⌝ }
     ensures { λ r. ⌜ r ≡ any (leb limit) (part (now (file .entry)) from count) ⌝ }
 {
+    let mut hit = false;
     let mut i: usize = 0;
     while i < count {
-        if limit <= file[from + i] {
-            return true;
-        }
+        hit = hit | (limit <= file[from + i]);
         i = i + 1;
     }
-    false
+    hit
 }
 
 // Section 1: a byte 2, then W and C.
