@@ -1,13 +1,16 @@
 // Section 3's calls: each by its code and argument, and the first that is wrong.
 ghost use mathlib.Core.Path.{_≡_};
-ghost use Prim.Native.Nat.{_+_};
+ghost use Prim.Native.Nat.{_+_, _≤_};
+ghost use lib.ListN.{length};
+ghost use Rattle.base.specs.Bytes.{byteAt, numberAt};
 ghost use Rattle.runfile.specs.Check.{firstOf};
-ghost use Rattle.runfile.specs.File.{callOf, codedAt, callAt, firstCalls, wrongAt};
+ghost use Rattle.runfile.specs.File.{callPlace, callOf, codedAt, callAt, firstCalls, wrongAt};
 ghost use Rattle.runfile.specs.inner.Marks.{Marks};
 use crate::Call;
 use crate::Coded;
 use crate::places::call_place;
 use base::byte_at;
+use base::joined;
 use base::number_at;
 use base::u8_to_u16;
 use marks::MARK_BYTES;
@@ -19,6 +22,12 @@ const PUSH: u8 = 1;
 const POP: u8 = 2;
 
 const TAKE: u8 = 3;
+
+// A call as its three bytes have it.
+struct CallBytes {
+    code: u8,
+    argument: u16,
+}
 
 // What a code and its argument say.
 fn call_of(processes: u8, code: u8, argument: u16) -> Coded
@@ -46,14 +55,47 @@ fn call_of(processes: u8, code: u8, argument: u16) -> Coded
     }
 }
 
+// The code and the argument of a call whose three bytes stand in the file.
+fn bytes_within(file: &[u8], at: usize) -> CallBytes
+    requires { ⌜ at + 3 ≤ length (now file) ⌝ }
+    ensures { λ r. ⌜ (r .code ≡ byteAt (now (file .entry)) at) × (r .argument ≡ numberAt (now (file .entry)) (at + 1)) ⌝ }
+{
+    let next = at + 1;
+    CallBytes {
+        code: file[at],
+        argument: joined(file[next], file[next + 1]),
+    }
+}
+
+// The code and the argument of call k; bytes past the end read as 0, and one test tells whether there are any.
+fn bytes_at(file: &[u8], processes: u8, k: u16) -> CallBytes
+    ensures { λ r. ⌜ (r .code ≡ byteAt (now (file .entry)) (callPlace processes k)) × (r .argument ≡ numberAt (now (file .entry)) (callPlace processes k + 1)) ⌝ }
+{
+    let at = call_place(processes, k);
+    if file.len() < at + 3 {
+        return CallBytes {
+            code: byte_at(file, at),
+            argument: number_at(file, at + 1),
+        };
+    }
+    bytes_within(file, at)
+}
+
 // What the bytes of call k say.
 fn coded_at(file: &[u8], processes: u8, k: u16) -> Coded
     ensures { λ r. ⌜ r ≡ codedAt (now (file .entry)) processes k ⌝ }
 {
-    let at = call_place(processes, k);
-    let code = byte_at(file, at);
-    let argument = number_at(file, at + 1);
-    call_of(processes, code, argument)
+    let bytes = bytes_at(file, processes, k);
+    call_of(processes, bytes.code, bytes.argument)
+}
+
+// The same, where they stand in the file.
+fn coded_within(file: &[u8], processes: u8, k: u16) -> Coded
+    requires { ⌜ callPlace processes (k + 1) ≤ length (now file) ⌝ }
+    ensures { λ r. ⌜ r ≡ codedAt (now (file .entry)) processes k ⌝ }
+{
+    let bytes = bytes_within(file, call_place(processes, k));
+    call_of(processes, bytes.code, bytes.argument)
 }
 
 // Call k of the file; Pop where its bytes say none, which is so in no good file.
@@ -70,10 +112,11 @@ pub fn call_at(file: &[u8], processes: u8, k: u16) -> Call
 // The number that refuses call k, 0 for none: then the table stands for one call more.
 fn wrong_call(file: &[u8], processes: u8, k: u16, marks: &mut [u8; MARK_BYTES]) -> u8
     requires { ⌜ Marks (now marks) (firstCalls (now file) processes k) ⌝ }
+    requires { ⌜ callPlace processes (k + 1) ≤ length (now file) ⌝ }
     ensures { λ r. ⌜ r ≡ wrongAt (now (file .entry)) processes k ⌝ }
     ensures { λ r. ⌜ (r ≡ 0 → Marks (now (marks .exit)) (firstCalls (now (file .entry)) processes (k + 1))) ⌝ }
 {
-    let coded = coded_at(file, processes, k);
+    let coded = coded_within(file, processes, k);
     match coded {
         Coded::Right(call) => match call {
             Call::Push(node) => if mark(marks, node) { 5 } else { 0 },
@@ -86,6 +129,7 @@ fn wrong_call(file: &[u8], processes: u8, k: u16, marks: &mut [u8; MARK_BYTES]) 
 
 // The number that refuses the first wrong call, 0 where there is none.
 pub(crate) fn first_wrong(file: &[u8], processes: u8, calls: u16) -> u8
+    requires { ⌜ callPlace processes calls ≤ length (now file) ⌝ }
     ensures { λ r. ⌜ r ≡ firstOf (wrongAt (now (file .entry)) processes) calls ⌝ }
 {
     let mut marks = [0u8; MARK_BYTES];

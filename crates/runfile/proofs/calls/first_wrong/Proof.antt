@@ -53,7 +53,7 @@ first-wrong-spec =
     Inv-loop
     μ-loop
     loop-holds
-    (λ c κs. c .before .before .loop .inv .2)
+    (λ c κs. (c .before .before .loop .inv .2, search needs))
     returns
     (λ c. search needs)
     (λ c. search needs)
