@@ -1,9 +1,5 @@
 -- Bytes, as both files have them: what stands at a place, and numbers of two bytes, high byte first.
-use Prim.Native.Nat.{ℕ, _+_, _*_, _/_, _%_, _<_}
-use mathlib.Core.Bool.{cond}
-use mathlib.Core.List.{List, [], _∷_, _++_}
-use lib.Dec.{leb}
-use lib.ListN.{length, getD, take, drop}
+use Rattle.base.specs.Words.{ℕ, _+_, _*_, _/_, _%_, _<_, cond, leb, List, [], _∷_, _++_, length, getD, take, drop}
 
 -- a number that fits one byte, and two
 abbrev pub Byte : ℕ → Type 0

@@ -1,8 +1,5 @@
 -- Lists: the first values of a function, what stands in a list, and what holds of all elements and of all pairs.
-use Prim.Native.Nat.{ℕ, zero, suc}
-use mathlib.Core.Path.{_≡_}
-use mathlib.Core.Logic.{_⊎_}
-use mathlib.Core.List.{List, [], _∷_}
+use Rattle.base.specs.Words.{ℕ, zero, suc, List, [], _∷_, _⊎_, _≡_}
 
 -- the first n values of f; by the `let` a value is computed where it is read, and not with the list
 abbrev pub listOf : {A : Type 0} → ℕ → (ℕ → A) → List A

@@ -1,6 +1,5 @@
 -- A few numbers and buffers, computed.
-use mathlib.Core.Path.{_≡_, refl}
-use mathlib.Core.List.{[], _∷_}
+use Rattle.base.specs.Words.{[], _∷_, _≡_, refl}
 use Rattle.base.specs.Bytes.{numberAt, pair, putAt}
 
 two-bytes : numberAt (9 ∷ 1 ∷ 2 ∷ []) 1 ≡ 258

@@ -1,14 +1,9 @@
 -- The desk: what it gives back for a stage lent with a word and slots, and the word and the slots after it. The step is the table's; a step
 -- out of range is refused with 10, before any access, and the stage is given back as lent.
-use mathlib.Core.Path.{_≡_}
-use mathlib.Core.Bool.{cond}
-use lib.ListN.{length}
-use Prim.Native.Nat.{ℕ}
-use mathlib.Core.List.{List, [], _∷_}
+use Rattle.base.specs.Words.{ℕ, cond, List, [], _∷_, length, _≡_}
 use Rattle.range.specs.Range.{inRange}
 use Rattle.queue.specs.Step.{stored, steppedOn, stageAfter, resultOf as nextResult}
-use Rattle.word.specs.declared.Word.{Word}
-use Rattle.word.specs.declared.Stage.{Stage}
+use Rattle.word.specs.declared.{Word.Word, Stage.Stage}
 use Rattle.word.specs.declared.Stage.the-variants.{Idle}
 use Rattle.queue.specs.declared.Next.{Next}
 use Rattle.queue.specs.declared.Next.the-variants as next

@@ -1,10 +1,6 @@
 -- Document 01's list of what the desk refuses, word by word.
-use mathlib.Core.Path.{_≡_}
-use mathlib.Core.List.{List, [], _∷_}
-use Prim.Native.Nat.{ℕ, _^_, _≤_, _<_}
-use Rattle.word.specs.Stages.{rowNumber}
-use Rattle.word.specs.declared.Word.{Word}
-use Rattle.word.specs.declared.Stage.{Stage}
+use Rattle.base.specs.Words.{ℕ, _^_, _<_, _≤_, List, [], _∷_, _≡_}
+use Rattle.word.specs.{Stages.rowNumber, declared.Word.Word, declared.Stage.Stage}
 use Rattle.word.specs.declared.Stage.the-variants.{Idle, P1, P2, P3, T1, T2, T3, T4, B1, B2, B3, B4, B5, B6, B7}
 
 -- what a stage has loaded of the control word: its b, and its age of t and g, each where it has one

@@ -1,12 +1,7 @@
 -- A stage as it is printed, in the words in which it is typed: its name, and each number after a space.
-use Prim.Native.Nat.{ℕ, zero, suc, _+_, _/_, _%_, _<_}
-use mathlib.Core.Bool.{cond}
-use mathlib.Core.List.{List, [], _∷_, _++_}
+use Rattle.base.specs.Words.{ℕ, zero, suc, _+_, _/_, _%_, _<_, cond, ltb, List, [], _∷_, _++_, getD, drop}
 use Prim.Native.String.{String}
-use lib.Dec.{ltb}
-use lib.ListN.{getD, drop}
-use Rattle.word.specs.declared.Stage.{Stage}
-use Rattle.word.specs.Stages.{listed, rowNumber}
+use Rattle.word.specs.{declared.Stage.Stage, Stages.listed, Stages.rowNumber}
 use Rattle.lines.specs.Text.{typed}
 
 -- the last k decimal digits of n

@@ -1,8 +1,7 @@
 -- A text as the bytes that are typed for it.
-use Prim.Native.Nat.{ℕ}
+use Rattle.base.specs.Words.{ℕ, List, [], _∷_}
 use Prim.Native.Char.{code}
 use Prim.Native.String.{String, [] as empty, _∷_ as _then_}
-use mathlib.Core.List.{List, [], _∷_}
 
 abbrev pub typed : String → List ℕ
 typed empty = []

@@ -1,17 +1,12 @@
 -- Lines, each with what it says, computed on the definitions that the readers are proved to follow.
-use mathlib.Core.Path.{_≡_, refl}
-use mathlib.Core.List.{List, [], _∷_, map}
+use Rattle.base.specs.Words.{List, [], _∷_, map, _≡_, refl}
 use Prim.Native.String.{String}
 use Rattle.word.specs.declared.Stage.the-variants.{Idle, P1, P2, P3, T1, T2, T3, T4, B1, B2, B3, B4, B5, B6, B7}
-use Rattle.lines.specs.declared.Line.{Line}
+use Rattle.lines.specs.{declared.Line.Line, declared.Sizes.Sizes, declared.SizesWhy.SizesWhy, Text.typed, Line.lineOf, Line.sizesOf}
 use Rattle.lines.specs.declared.Line.the-variants.{Stage, Wrong}
 use Rattle.lines.specs.declared.Why.the-variants.{Nothing, NoStage, Count, NoNumber}
-use Rattle.lines.specs.declared.Sizes.{Sizes}
 use Rattle.lines.specs.declared.Sizes.the-variants as sizes
-use Rattle.lines.specs.declared.SizesWhy.{SizesWhy}
 use Rattle.lines.specs.declared.SizesWhy.the-variants as sizes-why
-use Rattle.lines.specs.Text.{typed}
-use Rattle.lines.specs.Line.{lineOf, sizesOf}
 
 pub record Case : Type 0 where
   pub text : String

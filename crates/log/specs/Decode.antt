@@ -1,7 +1,5 @@
 -- What stands in a log's bytes. Bytes past the end read as 0, so that every list of bytes has entries.
-use Prim.Native.Nat.{ℕ, _+_, _*_}
-use mathlib.Core.List.{List, []}
-use lib.ListN.{drop}
+use Rattle.base.specs.Words.{ℕ, _+_, _*_, List, [], drop}
 use Rattle.base.specs.Bytes.{byteAt, numberAt}
 use Rattle.log.specs.declared.Entry.{Entry}
 

@@ -1,8 +1,5 @@
 -- A log, and its bytes in document 01's order: section 1, the number of entries, the entries.
-use Prim.Native.Nat.{ℕ, _≤_}
-use mathlib.Core.Path.{_≡_}
-use mathlib.Core.List.{List, [], _∷_, _++_}
-use lib.ListN.{length}
+use Rattle.base.specs.Words.{ℕ, _≤_, List, [], _∷_, _++_, length, _≡_}
 use Rattle.base.specs.Bytes.{Byte, Two, pair}
 use Rattle.base.specs.Lists.{listOf, All}
 use Rattle.log.specs.declared.Entry.{Entry}

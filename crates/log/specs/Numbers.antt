@@ -1,9 +1,6 @@
 -- The log's numbers as document 01, "The log", gives them, and document 02 in C-15, each once, and which calls have a moment.
-use Prim.Native.Nat.{ℕ}
-use mathlib.Core.Bool.{Bool, true, false, cond, _&&_, _||_}
-use lib.Dec.{eqb}
-use Rattle.log.specs.declared.Entry.{Entry}
-use Rattle.log.specs.declared.What.{What}
+use Rattle.base.specs.Words.{ℕ, Bool, true, false, cond, _&&_, _||_, eqb}
+use Rattle.log.specs.declared.{Entry.Entry, What.What}
 use Rattle.log.specs.declared.What.the-variants.{Pushed, Full, BottomNode, BottomNil, TopNode, TopNil, TopLost}
 
 -- kinds

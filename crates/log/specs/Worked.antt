@@ -1,8 +1,5 @@
 -- The log's numbers, and the bytes of K1's last entry, computed.
-use mathlib.Core.Path.{_≡_, refl}
-use mathlib.Core.Bool.{true, false}
-use mathlib.Core.List.{List, [], _∷_}
-use Prim.Native.Nat.{ℕ}
+use Rattle.base.specs.Words.{ℕ, true, false, List, [], _∷_, _≡_, refl}
 use Rattle.log.specs.Decode.{firstEntry, entryAt, noEntry, logLength}
 use Rattle.log.specs.Encode.{headBytes, entryBytes, longestLog}
 use Rattle.log.specs.Numbers.{kindOf, resultOf, bearsMoment, whatOf, same, isTopNil}

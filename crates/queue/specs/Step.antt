@@ -1,23 +1,12 @@
 -- The steps of the queue, row by row as in document 01's table. W is the tag's width, C the number of slots, w the control word,
 -- v the value of the slot that the stage loads.
-use Prim.Native.Nat.{ℕ, _+_, _-_, _%_, _<_}
-use mathlib.Core.Path.{_≡_}
-use mathlib.Core.Bool.{Bool, true, false, cond, _&&_}
-use mathlib.Core.List.{List, [], _∷_}
-use lib.ListN.{getD, set}
-use lib.Dec.{ltb, leb, eqb}
-use Rattle.word.specs.Tag.{nextTag}
-use Rattle.word.specs.Stages.{rowNumber, firstLoaded}
-use Rattle.word.specs.declared.Word.{Word}
-use Rattle.word.specs.declared.Stage.{Stage}
+use Rattle.base.specs.Words.{ℕ, _+_, _-_, _%_, _<_, Bool, true, false, cond, _&&_, ltb, leb, eqb, List, [], _∷_, getD, set, _≡_}
+use Rattle.word.specs.{Tag.nextTag, Stages.rowNumber, Stages.firstLoaded, declared.Word.Word, declared.Stage.Stage}
 use Rattle.word.specs.declared.Stage.the-variants.{Idle, P1, P2, P3, T1, T2, T3, T4, B1, B2, B3, B4, B5, B6, B7}
-use Rattle.queue.specs.declared.Next.{Next}
+use Rattle.queue.specs.declared.{Next.Next, Load.Load, Store.Store, Stepped.Stepped}
 use Rattle.queue.specs.declared.Next.the-variants.{Going, Done, Node, Nil, Lost, Full}
-use Rattle.queue.specs.declared.Load.{Load}
 use Rattle.queue.specs.declared.Load.the-variants as load
-use Rattle.queue.specs.declared.Store.{Store}
 use Rattle.queue.specs.declared.Store.the-variants as store
-use Rattle.queue.specs.declared.Stepped.{Stepped}
 
 abbrev pub bottomTo : Word → ℕ → Word
 bottomTo w b = record { bottom = b; top = w .top; tag = w .tag }

@@ -1,6 +1,5 @@
 -- The table at its edges, computed: the places where document 01 says that errors tempt.
-use mathlib.Core.Path.{_≡_, refl}
-use Prim.Native.Nat.{ℕ}
+use Rattle.base.specs.Words.{ℕ, _≡_, refl}
 use Rattle.queue.specs.Step.{leaves, resets, rowOf, inSixteen, loadedSlot}
 use Rattle.queue.specs.Packed.{packed, topOf, tagOf, nextAge, unpacked}
 use Rattle.queue.specs.declared.Load.the-variants as Load

@@ -1,7 +1,5 @@
 -- What `rack` promises: its number and every byte of both lent buffers, for every rack and every buffer.
-use Prim.Native.Nat.{ℕ}
-use mathlib.Core.Path.{_≡_}
-use mathlib.Core.List.{List}
+use Rattle.base.specs.Words.{ℕ, List, _≡_}
 use Rattle.racks.specs.Rack.{Answer, rackOf, answerTo}
 
 pub record Gives (a : Answer) (number : ℕ) (log′ replies′ : List ℕ) : Type 0 where

@@ -1,15 +1,9 @@
 -- A rack of files: a two-byte count, then each file after its two-byte length; its replies, and what it leaves in the log buffer.
-use Prim.Native.Nat.{ℕ, zero, suc, _+_, _*_}
-use mathlib.Core.Bool.{cond}
-use mathlib.Core.List.{List, [], _∷_, _++_}
-use lib.Dec.{ltb, eqb}
-use lib.ListN.{length, drop}
+use Rattle.base.specs.Words.{ℕ, zero, suc, _+_, _*_, cond, ltb, eqb, List, [], _∷_, _++_, length, drop}
 use Rattle.base.specs.Bytes.{Two, Bytes, numberAt, pair, part}
 use Rattle.base.specs.Lists.{All}
-use Rattle.rules.specs.Judge.{judgeOf}
-use Rattle.rules.specs.declared.Verdict.{Verdict}
-use Rattle.runs.specs.Promise.{bufferOf}
-use Rattle.runs.specs.Run.{Outcome, runOf}
+use Rattle.rules.specs.{Judge.judgeOf, declared.Verdict.Verdict}
+use Rattle.runs.specs.{Promise.bufferOf, Run.Outcome, Run.runOf}
 
 -- no rack, or its files
 pub data Split : Type 0 where

@@ -1,10 +1,6 @@
 -- What files get singly, one call after another on the same log buffer: a rack's replies and log buffer are to be the same.
-use Prim.Native.Nat.{ℕ}
-use mathlib.Core.Path.{_≡_}
-use mathlib.Core.List.{List, [], _∷_, _++_}
-use lib.ListN.{length, getD, take}
-use Rattle.rules.specs.Judge.{judgeOf}
-use Rattle.rules.specs.declared.Verdict.{Verdict}
+use Rattle.base.specs.Words.{ℕ, List, [], _∷_, _++_, length, getD, take, _≡_}
+use Rattle.rules.specs.{Judge.judgeOf, declared.Verdict.Verdict}
 use Rattle.runs.specs.Promise.{Ran}
 use Rattle.racks.specs.Rack.{unlessRefused, replyBytes, repliesOf, logAfter}
 

@@ -1,10 +1,6 @@
 -- The worked racks, computed on the definitions: bytes in; number, replies and log buffer out.
-use Prim.Native.Nat.{ℕ}
-use mathlib.Core.Path.{_≡_, refl}
-use mathlib.Core.List.{List, [], _∷_, _++_}
-use lib.ListN.{drop, replicate}
-use Rattle.log.specs.Decode.{entryAt}
-use Rattle.log.specs.Encode.{logBytes}
+use Rattle.base.specs.Words.{ℕ, List, [], _∷_, _++_, drop, replicate, _≡_, refl}
+use Rattle.log.specs.{Decode.entryAt, Encode.logBytes}
 use Rattle.rules.specs.Contents.{before}
 use Rattle.runs.specs.Run.{runOf}
 use Rattle.runs.specs.Worked.{K1, K4, K8}

@@ -1,7 +1,5 @@
 -- Each of the desk's conditions broken alone, computed.
-use mathlib.Core.Path.{_≡_, refl}
-use mathlib.Core.Bool.{true, false}
-use Prim.Native.Nat.{ℕ}
+use Rattle.base.specs.Words.{ℕ, true, false, _≡_, refl}
 use Rattle.word.specs.declared.Word.{Word}
 use Rattle.word.specs.declared.Stage.the-variants.{P2, P3, T2, T3, T4, B1, B2, B3, B4, B5, B6, B7}
 use Rattle.range.specs.Range.{inRange}

@@ -1,22 +1,13 @@
 -- The rules read aloud: when a log is accepted. This is the statement to compare with document 01, "What the judge accepts";
 -- `judged-0` in proofs/AcceptedLaws.antt shows that the judge's number is 0 exactly for the bytes of such a log.
-use Prim.Native.Nat.{ℕ, suc, _+_, _*_, _≤_, _<_}
-use mathlib.Core.Path.{_≡_}
-use mathlib.Core.Bool.{true, false, cond}
-use mathlib.Core.Logic.{_⊎_, _↔_}
-use mathlib.Core.List.{List, [], _∷_, _++_}
-use lib.ListN.{length, getD}
-use Rattle.log.specs.declared.Entry.{Entry}
-use Rattle.log.specs.declared.What.{What}
+use Rattle.base.specs.Words.{ℕ, suc, _+_, _*_, _<_, _≤_, true, false, cond, List, [], _∷_, _++_, length, getD, _⊎_, _↔_, _≡_}
+use Rattle.log.specs.{declared.Entry.Entry, declared.What.What, Decode.firstEntry}
 use Rattle.log.specs.declared.What.the-variants.{Pushed, Full, BottomNode, BottomNil, TopNode, TopNil, TopLost}
 use Rattle.log.specs.Numbers.{push, bottomPop, topPop, nil, full, lost, mostResult, noMoment, what, isTopNil}
 use Rattle.base.specs.Bytes.{Bytes}
 use Rattle.base.specs.Lists.{In, All, Pairs}
-use Rattle.log.specs.Decode.{firstEntry}
 use Rattle.log.specs.Encode.{Log, InRange, logBytes}
-use Rattle.rules.specs.Contents.{bears, before}
-use Rattle.rules.specs.Rules.{lastEnd}
-use Rattle.rules.specs.Judge.{judgeOf}
+use Rattle.rules.specs.{Contents.bears, Contents.before, Rules.lastEnd, Judge.judgeOf}
 
 -- NIL is 0, and 3 at T4
 abbrev pub IsNil : ℕ → Type 0

@@ -1,13 +1,8 @@
 -- Which nodes each queue holds at each instant, told by the calls' moments alone. A log is given as f, from an entry's
 -- index to the entry, and the number n of its entries. Contents go by recursion on the instant, so nothing is sorted.
-use Prim.Native.Nat.{ℕ, zero, suc}
-use mathlib.Core.Bool.{Bool, cond, _&&_}
-use mathlib.Core.List.{List, [], _∷_, _++_}
-use lib.Dec.{eqb, ltb}
-use Rattle.log.specs.declared.Entry.{Entry}
-use Rattle.log.specs.declared.What.{What}
+use Rattle.base.specs.Words.{ℕ, zero, suc, Bool, cond, _&&_, ltb, eqb, List, [], _∷_, _++_}
+use Rattle.log.specs.{declared.Entry.Entry, declared.What.What, Numbers.bearsMoment, Numbers.what}
 use Rattle.log.specs.declared.What.the-variants.{Pushed, Full, BottomNode, BottomNil, TopNode, TopNil, TopLost}
-use Rattle.log.specs.Numbers.{bearsMoment, what}
 use Rattle.rules.specs.Search.{first}
 
 -- whether the list of moments in document 01, "The log", has one for such a call

@@ -1,14 +1,8 @@
 -- What the judge says of a log's bytes: document 01, "Numbers given back".
-use Prim.Native.Nat.{ℕ}
-use mathlib.Core.Bool.{Bool, cond, _&&_, not}
-use mathlib.Core.List.{List}
-use lib.ListN.{length}
-use lib.Dec.{eqb, ltb, leb}
-use Rattle.log.specs.declared.Entry.{Entry}
+use Rattle.base.specs.Words.{ℕ, Bool, cond, not, _&&_, ltb, leb, eqb, List, length}
+use Rattle.log.specs.{declared.Entry.Entry, Encode.sectionCount, Encode.mostEntries}
 use Rattle.log.specs.Decode.{headLength, logLength, sectionCountOf, processesOf, slotsOf, entryCountOf, entryAt}
-use Rattle.log.specs.Encode.{sectionCount, mostEntries}
-use Rattle.rules.specs.declared.Verdict.{Verdict}
-use Rattle.rules.specs.Search.{first, lowest}
+use Rattle.rules.specs.{declared.Verdict.Verdict, Search.first, Search.lowest}
 use Rattle.rules.specs.Rules.{breaks1, breaks2, breaks3, breaks4, breaks5, breaks6}
 
 -- a number, and the entry at fault

@@ -1,20 +1,9 @@
 -- C-17. What is left on the table: the nodes that a log leaves in each queue, how often each was pushed and returned, and what follows for every accepted
 -- log. A log is f and n, as in Contents.antt.
-use Prim.Native.Nat.{ℕ, zero, suc, _+_, _-_, _≤_, _<_}
-use mathlib.Core.Path.{_≡_}
-use mathlib.Core.Bool.{Bool, true, cond, _&&_, _||_}
-use mathlib.Core.List.{List, [], _∷_, _++_}
-use lib.Dec.{eqb, ltb, leb}
-use lib.ListN.{length, replicate}
-use Rattle.log.specs.declared.Entry.{Entry}
+use Rattle.base.specs.Words.{ℕ, zero, suc, _+_, _-_, _<_, _≤_, Bool, true, cond, _&&_, _||_, ltb, leb, eqb, List, [], _∷_, _++_, length, replicate, _≡_}
+use Rattle.log.specs.{declared.Entry.Entry, Numbers.what, Numbers.same, Decode.entryCountOf, Decode.entryAt, Encode.mostEntries}
 use Rattle.log.specs.declared.What.the-variants.{Pushed, BottomNode, TopNode}
-use Rattle.log.specs.Numbers.{what, same}
-use Rattle.log.specs.Decode.{entryCountOf, entryAt}
-use Rattle.log.specs.Encode.{mostEntries}
-use Rattle.rules.specs.Search.{count, sumTo}
-use Rattle.rules.specs.Contents.{bears, before}
-use Rattle.rules.specs.Judge.{judgeOf}
-use Rattle.rules.specs.Accepted.{Accepted}
+use Rattle.rules.specs.{Search.count, Search.sumTo, Contents.bears, Contents.before, Judge.judgeOf, Accepted.Accepted}
 
 -- an instant after all moments: one more than the greatest, and 0 where there is none
 abbrev pub afterAll : (ℕ → Entry) → ℕ → ℕ

@@ -1,13 +1,8 @@
 -- Old logs, with 0 for NIL at T4 too (C-15): they are judged as before.
-use Prim.Native.Nat.{ℕ}
-use mathlib.Core.Path.{_≡_}
-use mathlib.Core.Logic.{_⊎_, _↔_}
-use lib.ListN.{length}
-use Rattle.log.specs.declared.Entry.{Entry}
+use Rattle.base.specs.Words.{ℕ, length, _⊎_, _↔_, _≡_}
+use Rattle.log.specs.{declared.Entry.Entry, Encode.Log, Encode.logBytes}
 use Rattle.log.specs.Numbers.{topPop, nil, lost}
-use Rattle.log.specs.Encode.{Log, logBytes}
-use Rattle.rules.specs.Judge.{judgeOf}
-use Rattle.rules.specs.Accepted.{entryOf, AcceptedLog}
+use Rattle.rules.specs.{Judge.judgeOf, Accepted.entryOf, Accepted.AcceptedLog}
 
 -- e with this result
 abbrev pub withResult : Entry → ℕ → Entry

@@ -1,12 +1,7 @@
 -- Document 01, "What the judge accepts": for each rule by itself, when entry j of a log breaks it. The log is f, from an
 -- entry's index to the entry, with n entries, P processes and C slots. A rule is asked only of logs that keep the earlier ones.
-use Prim.Native.Nat.{ℕ, zero, suc, _+_, _*_}
-use mathlib.Core.Bool.{Bool, true, false, cond, _&&_, _||_, not, Bool·beq}
-use mathlib.Core.List.{List, [], _∷_}
-use lib.ListN.{length}
-use lib.Dec.{eqb, ltb, leb}
-use Rattle.log.specs.declared.Entry.{Entry}
-use Rattle.log.specs.declared.What.{What}
+use Rattle.base.specs.Words.{ℕ, zero, suc, _+_, _*_, Bool, true, false, cond, not, _&&_, _||_, Bool·beq, ltb, leb, eqb, List, [], _∷_, length}
+use Rattle.log.specs.declared.{Entry.Entry, What.What}
 use Rattle.log.specs.declared.What.the-variants.{Pushed, Full, BottomNode, BottomNil, TopNode, TopNil, TopLost}
 use Rattle.log.specs.Numbers.{push, bottomPop, topPop, nil, full, lost, mostResult, noMoment, what, same, isTopNil}
 use Rattle.rules.specs.Search.{any, anyFrom}

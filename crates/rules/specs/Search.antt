@@ -1,7 +1,5 @@
 -- Searches over indices: the first that passes a test, whether one does, the lowest key of those that do, and how many do.
-use Prim.Native.Nat.{ℕ, zero, suc, _+_, _-_}
-use mathlib.Core.Bool.{Bool, cond, _&&_}
-use lib.Dec.{ltb}
+use Rattle.base.specs.Words.{ℕ, zero, suc, _+_, _-_, Bool, cond, _&&_, ltb}
 
 -- the first of i, i + 1, .. (k of them) that passes, or i + k; by the `let` no later one is looked at
 abbrev pub first : (ℕ → Bool) → ℕ → ℕ → ℕ

@@ -1,9 +1,5 @@
 -- How a refusal is decided: a chain of tests, each with its number, and the first that fails gives the number; 0 means that none does.
-use mathlib.Core.Bool.{Bool, false, cond, _||_}
-use mathlib.Core.List.{List, [], _∷_}
-use Prim.Native.Nat.{ℕ, zero, suc, _+_}
-use lib.Dec.{ltb}
-use lib.ListN.{length}
+use Rattle.base.specs.Words.{ℕ, zero, suc, _+_, Bool, false, cond, _||_, ltb, List, [], _∷_, length}
 
 infix 30 _endsBefore_
 infix 25 _when_

@@ -1,12 +1,8 @@
 -- The ranges of a run file, and the file as bytes.
-use mathlib.Core.Path.{_≡_}
-use mathlib.Core.List.{List, [], _∷_, _++_}
-use Prim.Native.Nat.{ℕ, _<_, _≤_}
-use lib.ListN.{length, getD}
+use Rattle.base.specs.Words.{ℕ, _<_, _≤_, List, [], _∷_, _++_, length, getD, _≡_}
 use Rattle.base.specs.Bytes.{pair}
-use Rattle.runfile.specs.declared.Call.{Call}
+use Rattle.runfile.specs.{declared.Call.Call, Check.sum}
 use Rattle.runfile.specs.declared.Call.the-variants.{Push, Pop, Take}
-use Rattle.runfile.specs.Check.{sum}
 use Rattle.runfile.specs.File.{RunFile, sectionCount, mostWidth, mostSize, mostProcesses, longestScript, longestSchedule}
 
 -- a call, of a file for so many processes

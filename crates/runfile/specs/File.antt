@@ -1,18 +1,10 @@
 -- The run file: what it says, where its bytes stand, and the number that refuses it.
-use mathlib.Core.Path.{_≡_}
-use mathlib.Core.Bool.{Bool, false, cond, not}
-use mathlib.Core.List.{List}
-use Prim.Native.Nat.{ℕ, zero, suc, _+_, _*_}
-use lib.Dec.{ltb, leb, eqb}
-use lib.ListN.{length, getD, take, drop}
+use Rattle.base.specs.Words.{ℕ, zero, suc, _+_, _*_, Bool, false, cond, not, ltb, leb, eqb, List, length, getD, take, drop, _≡_}
 use Rattle.base.specs.Bytes.{byteAt, part, numberAt}
 use Rattle.base.specs.Lists.{listOf}
-use Rattle.runfile.specs.declared.Call.{Call}
+use Rattle.runfile.specs.declared.{Call.Call, Coded.Coded, Shape.Shape, Reading.Reading}
 use Rattle.runfile.specs.declared.Call.the-variants.{Push, Pop, Take}
-use Rattle.runfile.specs.declared.Coded.{Coded}
 use Rattle.runfile.specs.declared.Coded.the-variants.{Right, Wrong}
-use Rattle.runfile.specs.declared.Shape.{Shape}
-use Rattle.runfile.specs.declared.Reading.{Reading}
 use Rattle.runfile.specs.declared.Reading.the-variants.{Refused, Good}
 use Rattle.runfile.specs.Check.{_when_, _then_, _endsBefore_, any, firstOf, sum, outside}
 

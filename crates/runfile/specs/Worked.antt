@@ -1,9 +1,6 @@
 -- Files, each with the number that document 01 gives it: K9 to K12; for each number a file that gives it and a neighbour that does not; and
 -- files with two faults.
-use mathlib.Core.Path.{_≡_, refl}
-use mathlib.Core.List.{List, [], _∷_, _++_, map}
-use Prim.Native.Nat.{ℕ, suc}
-use lib.ListN.{replicate, drop}
+use Rattle.base.specs.Words.{ℕ, suc, List, [], _∷_, _++_, map, drop, replicate, _≡_, refl}
 use Rattle.base.specs.Lists.{listOf}
 use Rattle.runfile.specs.declared.Call.the-variants.{Push, Pop, Take}
 use Rattle.runfile.specs.File.{good, fileOf, readingOf, numberIn, laterSections, lengthAt, callsBefore, callAt, stepPlace, wrongAt}

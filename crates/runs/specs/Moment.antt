@@ -1,10 +1,7 @@
 -- The entry of a finished call, with its moment: document 01, "The log".
-use Prim.Native.Nat.{ℕ, _+_, _*_}
-use mathlib.Core.Bool.{Bool, true, false, cond, _&&_, not}
-use lib.Dec.{eqb}
+use Rattle.base.specs.Words.{ℕ, _+_, _*_, Bool, true, false, cond, not, _&&_, eqb}
 use Rattle.log.specs.Numbers.{kindOf, resultOf, noMoment}
-use Rattle.log.specs.declared.Entry.{Entry}
-use Rattle.log.specs.declared.What.{What}
+use Rattle.log.specs.declared.{Entry.Entry, What.What}
 use Rattle.log.specs.declared.What.the-variants as what
 use Rattle.word.specs.Stages.{pastB2, popsSlot}
 use Rattle.queue.specs.declared.Next.{Next}

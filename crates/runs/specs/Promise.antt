@@ -1,8 +1,5 @@
 -- What `run` promises: the number of bytes written, and every lent number, for every file and every buffer.
-use Prim.Native.Nat.{ℕ, _+_}
-use mathlib.Core.Path.{_≡_}
-use mathlib.Core.List.{List, [], _∷_, _++_}
-use lib.ListN.{length, drop}
+use Rattle.base.specs.Words.{ℕ, _+_, List, [], _∷_, _++_, length, drop, _≡_}
 use Rattle.runs.specs.Run.{Outcome, runOf}
 
 -- number, entries, steps, gone-round takes

@@ -1,14 +1,8 @@
 -- A whole run, from the bytes of its file and the length of the log buffer to everything that it gives.
-use Prim.Native.Nat.{ℕ, zero, suc, _+_, _*_, _/_, _%_}
-use mathlib.Core.Bool.{cond}
-use mathlib.Core.List.{List, [], _∷_}
-use lib.Dec.{ltb}
-use lib.ListN.{length, getD, replicate}
+use Rattle.base.specs.Words.{ℕ, zero, suc, _+_, _*_, _/_, _%_, cond, ltb, List, [], _∷_, length, getD, replicate}
 use Rattle.base.specs.Lists.{listOf}
-use Rattle.log.specs.Decode.{logLength}
-use Rattle.log.specs.Encode.{logBytes}
-use Rattle.word.specs.Stages.{isIdle}
-use Rattle.word.specs.declared.Word.{Word}
+use Rattle.log.specs.{Decode.logLength, Encode.logBytes}
+use Rattle.word.specs.{Stages.isIdle, declared.Word.Word}
 use Rattle.runfile.specs.File.{RunFile, mostSize, Answer, refused, good, fileOf}
 use Rattle.runfile.specs.declared.Call.{Call}
 use Rattle.runs.specs.State.{Bench, Process, State, queueCount, start, queueAt, processAt}

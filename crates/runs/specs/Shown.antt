@@ -1,25 +1,13 @@
 -- What is shown of every run of a good file, gone-round runs included.
-use Prim.Native.Nat.{ℕ, zero, suc, _+_, _-_, _≤_, _<_}
-use mathlib.Core.Path.{_≡_}
-use mathlib.Core.Bool.{true, false, cond, _&&_}
-use mathlib.Core.Logic.{_↔_}
-use mathlib.Core.List.{List, [], _∷_, map}
-use lib.Dec.{eqb, ltb, leb}
-use lib.ListN.{length, getD, take}
-use Rattle.base.specs.Bytes.{Bytes}
-use Rattle.base.specs.Lists.{All}
+use Rattle.base.specs.Words.{ℕ, zero, suc, _+_, _-_, _<_, _≤_, true, false, cond, _&&_, ltb, leb, eqb, List, [], _∷_, map, length, getD, take, _↔_, _≡_}
+use Rattle.base.specs.{Bytes.Bytes, Lists.All}
 use Rattle.log.specs.Numbers.{push, bottomPop, lost}
 use Rattle.log.specs.declared.Entry.{Entry}
-use Rattle.word.specs.Stages.{isIdle}
-use Rattle.word.specs.declared.Stage.{Stage}
+use Rattle.word.specs.{Stages.isIdle, declared.Stage.Stage, declared.Word.Word}
 use Rattle.word.specs.declared.Stage.the-variants.{T4}
-use Rattle.word.specs.declared.Word.{Word}
 use Rattle.range.specs.Range.{inRange}
 use Rattle.queue.specs.Step.{sameAge, loadedSlot, LoadsBelow, StoresBelow}
-use Rattle.runfile.specs.Check.{sum}
-use Rattle.runfile.specs.Encode.{InRanges}
-use Rattle.runfile.specs.File.{RunFile, script}
-use Rattle.runfile.specs.declared.Call.{Call}
+use Rattle.runfile.specs.{Check.sum, Encode.InRanges, File.RunFile, File.script, declared.Call.Call}
 use Rattle.runfile.specs.declared.Call.the-variants.{Push, Pop, Take}
 use Rattle.runs.specs.Moment.{queueOf, Ended, Nothing, ends}
 use Rattle.runs.specs.Run.{lowest, closingSteps, closed, runOf}

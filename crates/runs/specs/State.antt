@@ -1,16 +1,11 @@
 -- The state of a run, and its start.
-use Prim.Native.Nat.{ℕ, suc}
-use mathlib.Core.List.{List, []}
-use lib.ListN.{getD, take, replicate}
+use Rattle.base.specs.Words.{ℕ, suc, List, [], getD, take, replicate}
 use Rattle.base.specs.Lists.{listOf}
 use Rattle.log.specs.declared.Entry.{Entry}
-use Rattle.word.specs.declared.Word.{Word}
-use Rattle.word.specs.declared.Stage.{Stage}
+use Rattle.word.specs.declared.{Word.Word, Stage.Stage}
 use Rattle.word.specs.declared.Stage.the-variants.{Idle}
-use Rattle.runfile.specs.declared.Call.{Call}
+use Rattle.runfile.specs.{declared.Call.Call, Check.sum, File.RunFile, File.mostProcesses}
 use Rattle.runfile.specs.declared.Call.the-variants.{Push}
-use Rattle.runfile.specs.Check.{sum}
-use Rattle.runfile.specs.File.{RunFile, mostProcesses}
 
 -- a run has eight queues and eight processes, whatever P is
 abbrev pub queueCount : ℕ

@@ -1,6 +1,5 @@
 -- The states that a run goes through.
-use Prim.Native.Nat.{ℕ, _≤_}
-use lib.ListN.{length, take}
+use Rattle.base.specs.Words.{ℕ, _≤_, length, take}
 use Rattle.runfile.specs.File.{RunFile}
 use Rattle.runs.specs.State.{State, start}
 use Rattle.runs.specs.Run.{play, close, closingSteps}

@@ -1,16 +1,11 @@
 -- One step of a run: document 01, "Steps of the queue", through the step of the crate `queue`.
-use Prim.Native.Nat.{ℕ, _+_}
-use mathlib.Core.Bool.{cond, _&&_}
-use mathlib.Core.List.{List, [], _∷_, _++_}
-use lib.Dec.{ltb}
-use lib.ListN.{getD, set}
+use Rattle.base.specs.Words.{ℕ, _+_, cond, _&&_, ltb, List, [], _∷_, _++_, getD, set}
 use Rattle.log.specs.declared.Entry.{Entry}
 use Rattle.word.specs.Stages.{isIdle, atT1, atB2}
 use Rattle.queue.specs.Step.{stored, steppedOn, stageAfter}
-use Rattle.queue.specs.declared.Next.{Next}
+use Rattle.queue.specs.declared.{Next.Next, Stepped.Stepped}
 use Rattle.word.specs.declared.Stage.{Stage}
 use Rattle.word.specs.declared.Stage.the-variants.{P1, T1, B1}
-use Rattle.queue.specs.declared.Stepped.{Stepped}
 use Rattle.runfile.specs.declared.Call.{Call}
 use Rattle.runfile.specs.declared.Call.the-variants.{Push, Pop, Take}
 use Rattle.runs.specs.Moment.{queueOf, Ended, Nothing, ends, ended, goneRound}

@@ -1,7 +1,5 @@
 -- Demand 3: every log that the bench writes without gone-round takes is accepted.
-use Prim.Native.Nat.{ℕ}
-use mathlib.Core.Path.{_≡_}
-use mathlib.Core.List.{List}
+use Rattle.base.specs.Words.{ℕ, List, _≡_}
 use Rattle.base.specs.Bytes.{Bytes}
 use Rattle.runs.specs.Run.{runOf}
 use Rattle.rules.specs.Judge.{says, judgeOf}

@@ -1,11 +1,7 @@
 -- C-17. What is left on the table, of every closed run without gone-round takes: of the bytes of its log and the numbers of its table. The condition that
 -- is enough for gone-round to be 0 stands in Tags.antt.
-use Prim.Native.Nat.{ℕ, _+_, _-_, _*_, _≤_, _<_}
-use mathlib.Core.Path.{_≡_, refl}
-use mathlib.Core.List.{List, [], _∷_, _++_, map}
-use lib.ListN.{length, getD, take, replicate}
-use Rattle.base.specs.Bytes.{Bytes}
-use Rattle.base.specs.Lists.{listOf}
+use Rattle.base.specs.Words.{ℕ, _+_, _-_, _*_, _<_, _≤_, List, [], _∷_, _++_, map, length, getD, take, replicate, _≡_, refl}
+use Rattle.base.specs.{Bytes.Bytes, Lists.listOf}
 use Rattle.log.specs.Decode.{processesOf, slotsOf, entryCountOf, entryAt}
 use Rattle.log.specs.Encode.{logBytes}
 use Rattle.rules.specs.Contents.{before}

@@ -1,18 +1,10 @@
 -- Top and tag in one word, and all slots in one row: every step, log and count is that of three numbers and a list of slots a queue, and the desk shows
 -- the same three numbers.
-use Prim.Native.Nat.{ℕ, _<_}
-use mathlib.Core.Path.{_≡_}
-use mathlib.Core.Bool.{true}
-use mathlib.Core.List.{List}
-use lib.ListN.{length, take}
-use Rattle.word.specs.declared.Word.{Word}
-use Rattle.word.specs.declared.Stage.{Stage}
+use Rattle.base.specs.Words.{ℕ, _<_, true, List, length, take, _≡_}
+use Rattle.word.specs.declared.{Word.Word, Stage.Stage}
 use Rattle.range.specs.Range.{inRange}
-use Rattle.queue.specs.Step.{stored, steppedOn}
+use Rattle.queue.specs.{Step.stored, Step.steppedOn, declared.Stepped.Stepped, declared.PackedWord.PackedWord, declared.PackedStep.PackedStep}
 use Rattle.queue.specs.Packed.{packed, packedWord, unpacked, unpackedStep, StepPacked}
-use Rattle.queue.specs.declared.Stepped.{Stepped}
-use Rattle.queue.specs.declared.PackedWord.{PackedWord}
-use Rattle.queue.specs.declared.PackedStep.{PackedStep}
 use Rattle.desk.specs.Desk.{answerOf, AtDesk}
 use Rattle.runs.specs.Promise.{Ran, HandsBack}
 

@@ -1,19 +1,11 @@
 -- A run stepped by hand: document 01, "At the desk a run is also stepped by hand". A person keeps a sheet, lends the desk one stage after
 -- another, and notes what it answers; the desk alone makes the steps.
-use Prim.Native.Nat.{ℕ, zero, suc, _/_, _%_, _<_}
-use mathlib.Core.Path.{_≡_, refl}
-use mathlib.Core.Bool.{cond}
-use mathlib.Core.List.{List, [], _∷_, _++_, map}
-use lib.Dec.{ltb}
-use lib.ListN.{length, getD, set, take, drop, replicate}
-use Rattle.base.specs.Lists.{listOf}
+use Rattle.base.specs.Words.{ℕ, zero, suc, _/_, _%_, _<_, cond, ltb, List, [], _∷_, _++_, map, length, getD, set, take, drop, replicate, _≡_, refl}
+use Rattle.base.specs.{Lists.listOf, Bytes.Bytes}
 use Rattle.desk.specs.Desk.{numberOf, stageOf, deskAnswer, deskWord, deskSlots}
-use Rattle.word.specs.Stages.{isIdle}
-use Rattle.word.specs.declared.Stage.{Stage}
+use Rattle.word.specs.{Stages.isIdle, declared.Stage.Stage, declared.Word.Word}
 use Rattle.word.specs.declared.Stage.the-variants.{Idle, P1, P2, P3, T1, T2, T3, T4, B1, B2, B3, B4, B5, B7}
-use Rattle.word.specs.declared.Word.{Word}
 use Rattle.desk.specs.declared.Answer.{Answer}
-use Rattle.base.specs.Bytes.{Bytes}
 use Rattle.runfile.specs.File.{RunFile, good, script, recordIn, fileOf}
 use Rattle.runfile.specs.declared.Call.{Call}
 use Rattle.runs.specs.Moment.{queueOf}

@@ -1,13 +1,9 @@
 -- The same of the programs, by what they promise: the log of a run without gone-round takes, handed to the judge, is accepted. The report's first number
 -- is the refusal, its last the gone-round takes.
-use Prim.Native.Nat.{ℕ}
-use mathlib.Core.Path.{_≡_}
-use mathlib.Core.List.{List}
-use lib.ListN.{getD, take}
+use Rattle.base.specs.Words.{ℕ, List, getD, take, _≡_}
 use Rattle.base.specs.Bytes.{Bytes}
 use Rattle.runs.specs.Promise.{Ran, HandsBack}
-use Rattle.rules.specs.Judge.{says, judgeOf}
-use Rattle.rules.specs.declared.Verdict.{Verdict}
+use Rattle.rules.specs.{Judge.says, Judge.judgeOf, declared.Verdict.Verdict}
 
 -- of `run`, which hands back the written front part of the buffer, and `judge`
 abbrev pub RunThenJudge : Type 0

@@ -1,16 +1,9 @@
 -- The run's step and the desk's are the same: both are `steppedOn`, on the queue's word and slots and the process's stage.
-use Prim.Native.Nat.{ℕ, _<_}
-use mathlib.Core.Path.{_≡_}
-use mathlib.Core.Bool.{true}
-use mathlib.Core.Logic.{_⊎_}
-use mathlib.Core.List.{List, [], _∷_}
-use lib.ListN.{length, getD}
-use Rattle.word.specs.declared.Stage.{Stage}
-use Rattle.word.specs.declared.Word.{Word}
+use Rattle.base.specs.Words.{ℕ, _<_, true, List, [], _∷_, length, getD, _⊎_, _≡_}
+use Rattle.word.specs.declared.{Stage.Stage, Word.Word}
 use Rattle.range.specs.Range.{inRange}
 use Rattle.queue.specs.Step.{stored, steppedOn, stageAfter}
-use Rattle.queue.specs.declared.Next.{Next}
-use Rattle.queue.specs.declared.Stepped.{Stepped}
+use Rattle.queue.specs.declared.{Next.Next, Stepped.Stepped}
 use Rattle.desk.specs.Desk.{answerOf, resultOf, AtDesk}
 use Rattle.desk.specs.declared.Answer.{Answer}
 use Rattle.runs.specs.Moment.{queueOf, Ended, Nothing, ends, ended}

@@ -1,16 +1,11 @@
 -- The wrong programs that document 01 shuts out by name: of each, that it cannot keep the promise. A bench here is whatever keeps the promise of `run`;
 -- what keeps that of `run_len`, as the function for a host in C does, keeps it too, with the written front part of its buffer.
-use Prim.Native.Nat.{ℕ}
-use mathlib.Core.Path.{_≡_}
-use mathlib.Core.List.{List}
-use lib.ListN.{length, getD, take, replicate}
+use Rattle.base.specs.Words.{ℕ, List, length, getD, take, replicate, _≡_}
 use Rattle.base.specs.Bytes.{Bytes}
 use Rattle.log.specs.Decode.{entryAt}
-use Rattle.runs.specs.Promise.{Ran, HandsBack}
-use Rattle.runs.specs.Run.{tableSize}
+use Rattle.runs.specs.{Promise.Ran, Promise.HandsBack, Run.tableSize}
 use Rattle.runs.specs.Worked.{Case, K3, room}
-use Rattle.rules.specs.Judge.{judgeOf}
-use Rattle.rules.specs.declared.Verdict.{Verdict}
+use Rattle.rules.specs.{Judge.judgeOf, declared.Verdict.Verdict}
 
 abbrev pub FrontHandedBack : Type 0
 FrontHandedBack = (file buffer : List ℕ) (written : ℕ) (buffer′ report table : List ℕ) → Ran file buffer written buffer′ report table

@@ -1,18 +1,12 @@
 -- The tag counts resets, and goes round: fewer than 2^W resets during each top pop are enough for gone-round to be 0.
-use Prim.Native.Nat.{ℕ, _+_, _%_, _^_, _<_}
-use mathlib.Core.Path.{_≡_}
-use mathlib.Core.Logic.{_↔_}
-use mathlib.Core.List.{List}
-use lib.ListN.{length}
+use Rattle.base.specs.Words.{ℕ, _+_, _%_, _^_, _<_, List, length, _↔_, _≡_}
 use Rattle.base.specs.Bytes.{Bytes}
 use Rattle.word.specs.Stages.{rowNumber}
 use Rattle.word.specs.declared.Stage.the-variants.{T4}
 use Rattle.runfile.specs.Encode.{InRanges}
 use Rattle.runfile.specs.File.{RunFile, good, fileOf}
-use Rattle.runs.specs.Moment.{queueOf}
-use Rattle.runs.specs.Run.{closed, runOf}
+use Rattle.runs.specs.{Moment.queueOf, Run.closed, Run.runOf, States.StateOf}
 use Rattle.runs.specs.State.{State, queueAt, processAt}
-use Rattle.runs.specs.States.{StateOf}
 
 -- in every state of a run the tag is the number of resets mod 2^W
 abbrev pub TagIsResets : Type 0

@@ -1,14 +1,9 @@
 -- The worked runs K1 to K8, K10 and K14 of document 01, and K4 with no tag, in one list: bytes in; number, entries, counts and verdict out.
-use Prim.Native.Nat.{ℕ}
-use mathlib.Core.Path.{_≡_, refl}
-use mathlib.Core.List.{List, [], _∷_, map}
-use lib.ListN.{length, getD}
+use Rattle.base.specs.Words.{ℕ, List, [], _∷_, map, length, getD, _≡_, refl}
 use Rattle.runs.specs.Run.{Outcome, runOf}
 use Rattle.runs.specs.Worked.{Case, room, K1, K2, K3, K4, K4-no-tag, K5, K6, K7, K8}
-use Rattle.rules.specs.Contents.{before}
-use Rattle.rules.specs.Judge.{judgeOf}
-use Rattle.log.specs.Decode.{entryAt}
-use Rattle.log.specs.Encode.{logBytes}
+use Rattle.rules.specs.{Contents.before, Judge.judgeOf}
+use Rattle.log.specs.{Decode.entryAt, Encode.logBytes}
 
 pub data Worked : Type 0 where
   -- a run, with the verdict on its log: the number, and the entry at fault

@@ -1,9 +1,5 @@
 -- Where a stage stands in document 01's table, and the numbers that it carries.
-use Prim.Native.Nat.{ℕ, _-_}
-use mathlib.Core.Bool.{Bool, cond, _&&_}
-use mathlib.Core.List.{List, [], _∷_}
-use lib.Dec.{eqb, leb, ltb}
-use lib.ListN.{getD}
+use Rattle.base.specs.Words.{ℕ, _-_, Bool, cond, _&&_, ltb, leb, eqb, List, [], _∷_, getD}
 use Rattle.word.specs.declared.Stage.{Stage}
 use Rattle.word.specs.declared.Stage.the-variants.{Idle, P1, P2, P3, T1, T2, T3, T4, B1, B2, B3, B4, B5, B6, B7}
 

@@ -1,6 +1,5 @@
 -- The tag at its edges, and where stages stand, computed.
-use mathlib.Core.Path.{_≡_, refl}
-use mathlib.Core.Bool.{true, false}
+use Rattle.base.specs.Words.{true, false, _≡_, refl}
 use Rattle.word.specs.Tag.{nextTag, isTag}
 use Rattle.word.specs.Stages.{rowNumber, firstLoaded, isIdle, atT1, atB2, pastB2, popsSlot, stepsLeft}
 use Rattle.word.specs.declared.Stage.the-variants.{Idle, P1, P3, T1, T2, T3, T4, B1, B2, B3, B7}
