@@ -10,7 +10,8 @@ use lib.Dec.{eqb, ltb}
 use lib.ListN.{length, getD, set, replicate, length-set}
 use lib.Seq.{getD-set-same, getD-set-other}
 use Rattle.log.specs.declared.Entry.{Entry}
-use Rattle.rules.specs.Rules.{endsRise, startsAfter, clash, breaks2}
+use Rattle.rules.specs.Rules.{clash, breaks2}
+use Rattle.rules.proofs.FieldLaws.{endsRise, startsAfter}
 use Rattle.base.proofs.Bools.{contra, and-i, and-0, and-1, or-e, not-so, not-i, not-e, if-so, so-if, by-both}
 use Rattle.rules.proofs.SearchLaws.{Found, any-e, any-i}
 

@@ -22,7 +22,7 @@ use Rattle.rules.specs.Search.{any}
 use Rattle.rules.specs.Contents.{bears, on, before}
 use Rattle.rules.specs.Rules.{clash, bearsAt, isEmpty, topIs, bottomIs, addedBefore, fresh, lawful, lawfulAt, inCall, emptyWithin, takesTopmost, removes, hasCause, since, breaks1, breaks2, breaks3, breaks4, breaks5, breaks6}
 use Rattle.rules.specs.Judge.{says, first1, first2, first3, first4, first5, first6, worst4, orElse, rulesOf, headRight, judgeOf}
-use Rattle.rules.specs.Accepted.{TopIs, BottomIs, Rule4, EmptyIn, RemovedIn, Accepted, entryOf, AcceptedLog, AcceptedBytes, JudgedZero}
+use Rattle.rules.specs.Accepted.{Rule4, EmptyIn, RemovedIn, Accepted, entryOf, AcceptedLog, AcceptedBytes, JudgedZero}
 use Rattle.base.proofs.Bools.{contra, not-so, and-i, and-0, and-1, or-l, or-r, or-e, guarded, not-i, not-e, not-f}
 use Rattle.rules.proofs.SearchLaws.{from-i, from-e, Found, any-e, any-i, none-passes, none, any-no, Hit, lowest-is, lowest-le}
 use Rattle.rules.proofs.FieldLaws.{fields-back, order-back, moment, moment-back}
@@ -35,6 +35,12 @@ use Rattle.rules.proofs.VerdictLaws.{headOf, says0, says-later, whole}
 empty-to : (c : List ℕ) → isEmpty c ≡ true → c ≡ []
 empty-to [] h = refl
 empty-to (x ∷ c) h = contra false h refl
+
+abbrev pub TopIs : ℕ → List ℕ → Type 0
+TopIs v c = (rest : List ℕ) × (c ≡ v ∷ rest)
+
+abbrev pub BottomIs : ℕ → List ℕ → Type 0
+BottomIs v c = (rest : List ℕ) × (c ≡ rest ++ (v ∷ []))
 
 top-to : (v : ℕ) (c : List ℕ) → topIs v c ≡ true → TopIs v c
 top-to v [] h = contra false h refl

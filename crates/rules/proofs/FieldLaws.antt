@@ -11,9 +11,38 @@ use Rattle.log.specs.declared.What.{What}
 use Rattle.log.specs.declared.What.the-variants.{Pushed, Full, BottomNode, BottomNil, TopNode, TopNil, TopLost}
 use Rattle.log.specs.Numbers.{push, bottomPop, topPop, nil, done, full, lost, mostResult, noMoment, kindOf, resultOf, what}
 use Rattle.rules.specs.Contents.{bears}
-use Rattle.rules.specs.Rules.{lastEnd, kindKnown, onOwnQueue, fullForPush, nilForPop, lostForTopPop, isNil, nodeUnlessNil, keeps1, endsRise, startsAfter, clash, inCall, momentRight}
+use Rattle.rules.specs.Rules.{lastEnd, keeps1, clash, inCall, momentRight}
 use Rattle.rules.specs.Accepted.{IsNil, Rule1, Rule2, Rule3}
 use Rattle.base.proofs.Bools.{contra, and-i, and-0, and-1, or-l, or-r, or-e, if-so, so-if, not-i, not-e, not-f}
+
+-- the tests of rule 1, each by itself
+abbrev kindKnown : Entry → Bool
+kindKnown e = leb push (e .kind) && leb (e .kind) topPop
+
+abbrev onOwnQueue : Entry → Bool
+onOwnQueue e = not (eqb (e .kind) push || eqb (e .kind) bottomPop) || eqb (e .process) (e .queue)
+
+abbrev fullForPush : Entry → Bool
+fullForPush e = not (eqb (e .result) full) || eqb (e .kind) push
+
+abbrev nilForPop : Entry → Bool
+nilForPop e = not (eqb (e .result) nil) || not (eqb (e .kind) push)
+
+abbrev lostForTopPop : Entry → Bool
+lostForTopPop e = not (eqb (e .result) lost) || eqb (e .kind) topPop
+
+abbrev isNil : ℕ → Bool
+isNil result = eqb result nil || eqb result lost
+
+abbrev nodeUnlessNil : Entry → Bool
+nodeUnlessNil e = Bool·beq (eqb (e .node) 0) (isNil (e .result))
+
+-- and those of rule 2
+abbrev pub endsRise : Entry → Entry → Bool
+endsRise d e = ltb (d .end) (e .end)
+
+abbrev pub startsAfter : Entry → Entry → Bool
+startsAfter d e = not (eqb (d .process) (e .process)) || ltb (d .end) (e .start)
 
 same-truth : (s t : Bool) → (s ≡ true → t ≡ true) → (t ≡ true → s ≡ true) → Bool·beq s t ≡ true
 same-truth true t h k = rw (h refl)

@@ -19,8 +19,12 @@ use Rattle.log.specs.Numbers.{push, bottomPop, kindOf, what, same}
 use Rattle.log.proofs.NumbersLaws.{same-of, same-true}
 use Rattle.rules.specs.Contents.{bears}
 use Rattle.rules.specs.Rules.{did, since}
-use Rattle.rules.specs.Accepted.{Rule1, Rule2, Rule3, Lists, place, Counts, Rule6, time, SameByMoments}
+use Rattle.rules.specs.Accepted.{Rule1, Rule2, Rule3, Lists, Counts, Rule6, time, SameByMoments}
 use Rattle.rules.proofs.FieldLaws.{what-right}
+
+-- an entry's place in the log
+abbrev place : ℕ → ℕ
+place i = i
 
 -- one list, of a property as of its equal
 lists-map : (P Q : ℕ → Type 0) (l : List ℕ) → ((i : ℕ) → P i → Q i) → ((i : ℕ) → Q i → P i) → Lists P l → Lists Q l

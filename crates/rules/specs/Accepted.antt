@@ -47,28 +47,14 @@ pub record Rule3 (e : Entry) : Type 0 where
   -- A moment stands where the list has one, from 2 × start to 2 × end + 1 (at most 65,533 by rule 1),
   pub from : bears e ≡ true → 2 * e .start ≤ e .moment
   pub to : bears e ≡ true → e .moment ≤ 2 * e .end + 1
-  -- and 65,535 stands elsewhere;
+  -- and 65,535 stands elsewhere.
   pub none : bears e ≡ false → e .moment ≡ noMoment
-
--- all moments differ.
-abbrev pub Differ : Entry → Entry → Type 0
-Differ d e = bears d ≡ true → bears e ≡ true → d .moment ≡ e .moment → ⊥
-
-abbrev pub TopIs : ℕ → List ℕ → Type 0
-TopIs v c = (rest : List ℕ) × (c ≡ v ∷ rest)
-
-abbrev pub BottomIs : ℕ → List ℕ → Type 0
-BottomIs v c = (rest : List ℕ) × (c ≡ rest ++ (v ∷ []))
 
 -- l lists the numbers of which P holds, each once, greater ones first
 pub record Lists (P : ℕ → Type 0) (l : List ℕ) : Type 0 where
   pub only : All P l
   pub once : Pairs (λ i k. k < i) l
   pub every : (i : ℕ) → P i → In i l
-
--- an entry's place in the log
-abbrev pub place : ℕ → ℕ
-place i = i
 
 module _ (f : ℕ → Entry) (n : ℕ) where
   -- Rule 4, of an entry e that did w and finds its queue holding c, top first.
@@ -77,10 +63,10 @@ module _ (f : ℕ → Entry) (n : ℕ) where
   Rule4 e c Pushed = (k : ℕ) → k < n → what (f k) ≡ Pushed → f k .moment < e .moment → f k .node ≡ e .node → ⊥
   Rule4 e c Full = Unit {0}
   -- a bottom pop gives the bottom node, or NIL exactly when empty;
-  Rule4 e c BottomNode = BottomIs (e .node) c
+  Rule4 e c BottomNode = (rest : List ℕ) × (c ≡ rest ++ (e .node ∷ []))
   Rule4 e c BottomNil = c ≡ []
   -- a top pop gives the top node.
-  Rule4 e c TopNode = TopIs (e .node) c
+  Rule4 e c TopNode = (rest : List ℕ) × (c ≡ e .node ∷ rest)
   Rule4 e c TopNil = Unit {0}
   Rule4 e c TopLost = Unit {0}
 
@@ -124,15 +110,15 @@ module _ (f : ℕ → Entry) (n : ℕ) where
     pub rule1 : (j : ℕ) → j < n → Rule1 P (f j)
     -- Rule 2, of every entry and every later one,
     pub rule2 : (i j : ℕ) → i < j → j < n → Rule2 (f i) (f j)
-    -- Rule 3. Moments, and that all of them differ,
+    -- Rule 3. Moments, and all moments differ,
     pub rule3 : (j : ℕ) → j < n → Rule3 (f j)
-    pub differ : (i j : ℕ) → i < j → j < n → Differ (f i) (f j)
+    pub differ : (i j : ℕ) → i < j → j < n → bears (f i) ≡ true → bears (f j) ≡ true → f i .moment ≡ f j .moment → ⊥
     -- Rule 4, just before each call's moment,
     pub rule4 : (j : ℕ) → j < n → Rule4 (f j) (before f n (f j .queue) (f j .moment)) (what (f j))
     -- Rule 5. A top pop with NIL, at T2 or at T4, has its cause,
     pub rule5 : (j : ℕ) → j < n → isTopNil (what (f j)) ≡ true → EmptyIn (f j) ⊎ RemovedIn (f j)
     -- Rule 6. FULL, by place in the log.
-    pub rule6 : (j : ℕ) → j < n → what (f j) ≡ Full → Rule6 place C j
+    pub rule6 : (j : ℕ) → j < n → what (f j) ≡ Full → Rule6 (λ i. i) C j
 
 -- entry i of a list; past the end, as bytes past the end read, all numbers are 0
 abbrev pub entryOf : List Entry → ℕ → Entry
@@ -160,4 +146,4 @@ time e = cond (bears e) (e .moment) (2 * e .start)
 abbrev pub SameByMoments : Type 0
 SameByMoments =
     (f : ℕ → Entry) (n P C : ℕ) → ((j : ℕ) → j < n → Rule1 P (f j)) → ((i j : ℕ) → i < j → j < n → Rule2 (f i) (f j)) → ((j : ℕ) → j < n → Rule3 (f j))
-    → (j : ℕ) → j < n → what (f j) ≡ Full → Rule6 f n place C j ↔ Rule6 f n (λ i. time (f i)) C j
+    → (j : ℕ) → j < n → what (f j) ≡ Full → Rule6 f n (λ i. i) C j ↔ Rule6 f n (λ i. time (f i)) C j

@@ -6,16 +6,8 @@ use Rattle.rules.specs.{Judge.judgeOf, Accepted.entryOf, Accepted.Accept
 
 -- e with this result
 abbrev pub withResult : Entry → ℕ → Entry
-withResult e r = record {
-  process = e .process;
-  queue = e .queue;
-  kind = e .kind;
-  result = r;
-  node = e .node;
-  start = e .start;
-  end = e .end;
-  moment = e .moment;
-}
+withResult e r =
+    record { process = e .process; queue = e .queue; kind = e .kind; result = r; node = e .node; start = e .start; end = e .end; moment = e .moment }
 
 -- d is e, or e is a top pop whose 3 is 0 in d
 abbrev pub Older : Entry → Entry → Type 0

@@ -7,62 +7,34 @@ use Rattle.log.specs.Numbers.{push, bottomPop, topPop, nil, full, lost, mostRes
 use Rattle.rules.specs.Search.{any, anyFrom}
 use Rattle.rules.specs.Contents.{bears, on, before}
 
--- RULE 1. Fields: process and queue below P; kind 1 to 3, result 0 to 3; a push or bottom pop on its own queue; result 2
--- for a push only, 0 for pops only, 3 for a top pop only (C-15); node 0 exactly for NIL; start ≤ end ≤ 32,766.
+-- RULE 1. Fields:
 abbrev pub lastEnd : ℕ
 lastEnd = 32766
 
--- kind 1 to 3
-abbrev pub kindKnown : Entry → Bool
-kindKnown e = leb push (e .kind) && leb (e .kind) topPop
-
--- a push or bottom pop on its own queue
-abbrev pub onOwnQueue : Entry → Bool
-onOwnQueue e = not (eqb (e .kind) push || eqb (e .kind) bottomPop) || eqb (e .process) (e .queue)
-
--- result 2 for a push only
-abbrev pub fullForPush : Entry → Bool
-fullForPush e = not (eqb (e .result) full) || eqb (e .kind) push
-
--- 0 for pops only
-abbrev pub nilForPop : Entry → Bool
-nilForPop e = not (eqb (e .result) nil) || not (eqb (e .kind) push)
-
--- 3 for a top pop only
-abbrev pub lostForTopPop : Entry → Bool
-lostForTopPop e = not (eqb (e .result) lost) || eqb (e .kind) topPop
-
--- NIL is 0, and 3 at T4
-abbrev pub isNil : ℕ → Bool
-isNil result = eqb result nil || eqb result lost
-
--- node 0 exactly for NIL
-abbrev pub nodeUnlessNil : Entry → Bool
-nodeUnlessNil e = Bool·beq (eqb (e .node) 0) (isNil (e .result))
-
 abbrev pub keeps1 : ℕ → Entry → Bool
 keeps1 P e =
+    -- process and queue below P;
     ltb (e .process) P && ltb (e .queue) P
-    && kindKnown e && leb (e .result) mostResult
-    && onOwnQueue e
-    && fullForPush e && nilForPop e && lostForTopPop e
-    && nodeUnlessNil e
+    -- kind 1 to 3, result 0 to 3;
+    && (leb push (e .kind) && leb (e .kind) topPop) && leb (e .result) mostResult
+    -- a push or bottom pop on its own queue;
+    && (not (eqb (e .kind) push || eqb (e .kind) bottomPop) || eqb (e .process) (e .queue))
+    -- result 2 for a push only, 0 for pops only, 3 for a top pop only (C-15);
+    && (not (eqb (e .result) full) || eqb (e .kind) push)
+    && (not (eqb (e .result) nil) || not (eqb (e .kind) push))
+    && (not (eqb (e .result) lost) || eqb (e .kind) topPop)
+    -- node 0 exactly for NIL, which is 0, and 3 at T4;
+    && Bool·beq (eqb (e .node) 0) (eqb (e .result) nil || eqb (e .result) lost)
+    -- start ≤ end ≤ 32,766.
     && leb (e .start) (e .end) && leb (e .end) lastEnd
 
 abbrev pub breaks1 : (ℕ → Entry) → ℕ → ℕ → Bool
 breaks1 f P j = not (keeps1 P (f j))
 
--- RULE 2. Ends rise; a process's call starts after its previous call's end. Entry d stands before e in the file.
--- ends rise
-abbrev pub endsRise : Entry → Entry → Bool
-endsRise d e = ltb (d .end) (e .end)
-
--- a process's call starts after its previous call's end; where ends rise, the previous one's is the last of all earlier ones
-abbrev pub startsAfter : Entry → Entry → Bool
-startsAfter d e = not (eqb (d .process) (e .process)) || ltb (d .end) (e .start)
-
+-- RULE 2, of an entry d before e in the file. Ends rise; a process's call starts after its previous call's end: where ends rise, that is the last end
+-- of all its earlier calls.
 abbrev pub clash : Entry → Entry → Bool
-clash d e = not (endsRise d e && startsAfter d e)
+clash d e = not (ltb (d .end) (e .end) && (not (eqb (d .process) (e .process)) || ltb (d .end) (e .start)))
 
 -- of entries that clash the later in the file
 abbrev pub breaks2 : (ℕ → Entry) → ℕ → Bool

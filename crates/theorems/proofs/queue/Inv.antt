@@ -19,7 +19,7 @@ use Rattle.word.specs.declared.Stage.{Stage}
 use Rattle.word.specs.declared.Stage.the-variants.{Idle, P1, P2, P3, T1, T2, T3, T4, B1, B2, B3, B4, B5, B6, B7}
 use Rattle.runfile.specs.declared.Call.{Call}
 use Rattle.runfile.specs.declared.Call.the-variants.{Push}
-use Rattle.rules.specs.Accepted.{TopIs, BottomIs}
+use Rattle.rules.proofs.AcceptedLaws.{TopIs, BottomIs}
 use Rattle.rules.specs.Contents.{bears}
 use Rattle.theorems.proofs.queue.Content.{content, Free}
 use Rattle.base.specs.Lists.{In}
