@@ -1,13 +1,10 @@
 -- Steps at the desk, computed: K1 by hand, K4's tag that goes round and K5's that does not, tags of 16 bits, and each refusal of document 01's list.
 use Rattle.base.specs.Words.{ℕ, List, [], _∷_, _++_, map, replicate, _≡_, refl}
 use Rattle.desk.specs.Desk.{numberOf, stageOf, resultOf, deskAnswer, deskWord, deskSlots}
-use Rattle.word.specs.declared.{Word.Word, Stage.Stage}
+use Rattle.word.specs.{Worked.word, declared.Word.Word, declared.Stage.Stage}
 use Rattle.word.specs.declared.Stage.the-variants.{Idle, P1, P2, P3, T1, T2, T3, T4, B1, B2, B3, B4, B5, B6, B7}
 use Rattle.desk.specs.declared.Answer.{Answer}
 use Rattle.desk.specs.declared.Answer.the-variants.{Going, Done, Node, Nil, Lost, Full, Refused}
-
-abbrev word : ℕ → ℕ → ℕ → Word
-word b t g = record { bottom = b; top = t; tag = g }
 
 -- an answer of the desk, with the word and the slots that it leaves
 record After : Type 0 where

@@ -11,8 +11,9 @@ use borrow.Author.Tests.{leb-false, eqb-false}
 use Rattle.word.proofs.TagLaws.{next-below}
 use Rattle.range.specs.inner.Facts.{WordIn, StageIn, InRange}
 use Rattle.base.proofs.Cases.{either-way}
-use Rattle.word.specs.Stages.{stepsLeft}
-use Rattle.queue.specs.Step.{leaves, resets, sameAge, rowOf, loadedSlot, stored, stageAfter, resultOf, inSixteen, steppedOn, StepOn, LoadsBelow, StoresBelow}
+use Rattle.word.proofs.StepsLeft.{stepsLeft}
+use Rattle.queue.specs.Step.{leaves, resets, sameAge, rowOf, loadedSlot, stored, stageAfter, resultOf, inSixteen, steppedOn, StepOn}
+use Rattle.queue.proofs.Below.{LoadsBelow, StoresBelow}
 use Rattle.word.specs.declared.Word.{Word}
 use Rattle.word.specs.declared.Stage.{Stage}
 use Rattle.word.specs.declared.Stage.the-variants.{Idle, P1, P2, P3, T1, T2, T3, T4, B1, B2, B3, B4, B5, B6, B7}

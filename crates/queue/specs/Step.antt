@@ -1,6 +1,6 @@
 -- The steps of the queue, row by row as in document 01's table. W is the tag's width, C the number of slots, w the control word,
 -- v the value of the slot that the stage loads.
-use Rattle.base.specs.Words.{ℕ, _+_, _-_, _%_, _<_, Bool, true, false, cond, _&&_, ltb, leb, eqb, List, [], _∷_, getD, set, _≡_}
+use Rattle.base.specs.Words.{ℕ, _+_, _-_, _%_, Bool, true, false, cond, _&&_, ltb, leb, eqb, List, [], _∷_, getD, set, _≡_}
 use Rattle.word.specs.{Tag.nextTag, Stages.rowNumber, Stages.firstLoaded, declared.Word.Word, declared.Stage.Stage}
 use Rattle.word.specs.declared.Stage.the-variants.{Idle, P1, P2, P3, T1, T2, T3, T4, B1, B2, B3, B4, B5, B6, B7}
 use Rattle.queue.specs.declared.{Next.Next, Load.Load, Store.Store, Stepped.Stepped}
@@ -100,12 +100,3 @@ pub record StepOn (W C : ℕ) (w : Word) (slots : List ℕ) (s : Stage) (answer 
   pub staged : stageAfter (answer .next) ≡ stageAfter (steppedOn W C w slots s .next)
   pub resulted : resultOf (answer .next) ≡ resultOf (steppedOn W C w slots s .next)
   pub kept : after ≡ stored slots (steppedOn W C w slots s .store)
-
--- the slot that a step touches, if it touches one, is below C
-abbrev pub LoadsBelow : ℕ → Load → Type 0
-LoadsBelow C load.Nothing = Unit {0}
-LoadsBelow C (load.Slot at) = at < C
-
-abbrev pub StoresBelow : ℕ → Store → Type 0
-StoresBelow C store.Nothing = Unit {0}
-StoresBelow C (store.Slot at node) = at < C

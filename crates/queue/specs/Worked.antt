@@ -3,13 +3,9 @@ use Rattle.base.specs.Words.{ℕ, _≡_, refl}
 use Rattle.queue.specs.Step.{leaves, resets, rowOf, inSixteen, loadedSlot}
 use Rattle.queue.specs.Packed.{packed, topOf, tagOf, nextAge, unpacked}
 use Rattle.queue.specs.declared.Load.the-variants as Load
-use Rattle.queue.specs.declared.PackedWord.{PackedWord}
-use Rattle.word.specs.declared.Word.{Word}
+use Rattle.word.specs.{Worked.word, declared.Word.Word}
 use Rattle.word.specs.declared.Stage.the-variants.{P1, P2, P3, T2, T3, T4, B3, B4, B5, B6, B7}
 use Rattle.queue.specs.declared.Next.the-variants.{Going, Node, Nil, Lost, Full}
-
-abbrev word : ℕ → ℕ → ℕ → Word
-word b t g = record { bottom = b; top = t; tag = g }
 
 -- FULL at b = C and not one place early
 full : (rowOf 8 4 (word 4 0 0) 0 (P1 7) ≡ leaves (word 4 0 0) Full) × (rowOf 8 4 (word 3 0 0) 0 (P1 7) ≡ leaves (word 3 0 0) (Going (P2 7 3)))
@@ -28,13 +24,10 @@ both-compared = (refl, refl, refl)
 last-node : (rowOf 8 4 (word 1 0 0) 0 (B4 2 7) ≡ leaves (word 1 0 0) (Node 7)) × (rowOf 8 4 (word 0 0 0) 0 (B4 1 7) ≡ leaves (word 0 0 0) (Going (B5 1 7 0 0)))
 last-node = (refl, refl)
 
--- B7 gives the age top 0 and the next tag
-reset : (rowOf 2 4 (word 0 1 2) 0 (B7 1 7 0 2) ≡ resets 2 (word 0 1 2) 2 Nil) × (rowOf 2 4 (word 0 1 2) 0 (B7 1 7 0 2) .word ≡ word 0 0 3)
-reset = (refl, refl)
-
--- with no tag B6 finds (0, 0) and writes (0, 0): it has changed the age, and returns its node
-no-tag : (rowOf 0 4 (word 0 0 0) 0 (B6 1 7 0 0) ≡ resets 0 (word 0 0 0) 0 (Node 7)) × (rowOf 0 4 (word 0 0 0) 0 (B6 1 7 0 0) .word ≡ word 0 0 0)
-no-tag = (refl, refl)
+-- B7 gives the age top 0 and the next tag; with no tag B6 finds (0, 0) and writes (0, 0): it has changed the age, and returns its node
+reset : (rowOf 2 4 (word 0 1 2) 0 (B7 1 7 0 2) ≡ resets 2 (word 0 1 2) 2 Nil) × (resets 2 (word 0 1 2) 2 Nil .word ≡ word 0 0 3)
+    × (rowOf 0 4 (word 0 0 0) 0 (B6 1 7 0 0) ≡ resets 0 (word 0 0 0) 0 (Node 7)) × (resets 0 (word 0 0 0) 0 (Node 7) .word ≡ word 0 0 0)
+reset = (refl, refl, refl, refl)
 
 -- T3 loads slot t and B3 slot b−1; P2 loads none, and stores
 loads : (loadedSlot (T3 2 0 3) ≡ Load.Slot 2) × (loadedSlot (B3 3) ≡ Load.Slot 2) × (loadedSlot (P2 7 3) ≡ Load.Nothing)
@@ -45,17 +38,18 @@ ages : (packed 1 257 ≡ 16842753) × (topOf 16842753 ≡ 1) × (tagOf 16842753 
     × (nextAge 16 (packed 3 7) ≡ 524288)
 ages = (refl, refl, refl, refl, refl, refl)
 
-abbrev held : ℕ → ℕ → PackedWord
-held b a = record { bottom = b; age = record { word = a } }
+-- bottom b and the age a, of 32 bits
+abbrev held : ℕ → ℕ → Word
+held b a = unpacked (record { bottom = b; age = record { word = a } })
 
 -- T4 compares the whole word and stores the whole word: a tag of 257 is not 1, though the lower halves agree
-whole : (rowOf 16 4 (unpacked (held 1 65536)) 0 (T4 0 1 1 7) ≡ leaves (unpacked (held 1 65537)) (Node 7))
-    × (rowOf 16 4 (unpacked (held 1 16842752)) 0 (T4 0 1 1 7) ≡ leaves (unpacked (held 1 16842752)) Lost)
+whole : (rowOf 16 4 (held 1 65536) 0 (T4 0 1 1 7) ≡ leaves (held 1 65537) (Node 7))
+    × (rowOf 16 4 (held 1 16842752) 0 (T4 0 1 1 7) ≡ leaves (held 1 16842752) Lost)
 whole = (refl, refl)
 
 -- B6 after tag 65,535; and B7 stores the age after the one that B4 loaded, here (1, 65,535), and not after the one that it finds, (1, 8)
-stored-whole : (rowOf 16 4 (unpacked (held 0 4294901760)) 0 (B6 1 7 0 65535) .word ≡ unpacked (held 0 0))
-    × (rowOf 16 4 (unpacked (held 0 524289)) 0 (B7 1 7 1 65535) .word ≡ unpacked (held 0 0))
+stored-whole : (rowOf 16 4 (held 0 4294901760) 0 (B6 1 7 0 65535) .word ≡ held 0 0)
+    × (rowOf 16 4 (held 0 524289) 0 (B7 1 7 1 65535) .word ≡ held 0 0)
 stored-whole = (refl, refl)
 
 -- out of range a bottom, a top or a tag goes round; in range nothing does

@@ -32,11 +32,19 @@ use Rattle.runs.proofs.ClosingLaws.{lowest-busy, all-closed-idle}
 use Rattle.runs.specs.Moment.{queueOf, pushedNode, isTake, ended, Ended, Nothing, ends}
 use Rattle.runs.specs.Run.{lowest, closed, closingStep}
 use Rattle.runs.proofs.Induction.{nextOf, endedBy, recordAfter, turn-keeps, closed-keeps}
-use Rattle.runs.specs.Shown.{entriesOf, callIn, callsBy, firstCall, callsBegun, EachBegunOnce}
+use Rattle.runs.specs.Shown.{entriesOf, callIn, callsBegun, EachBegunOnce}
 use Rattle.runs.specs.State.{Process, State, nobody, scripted, start, queueAt, processAt}
 use Rattle.runs.specs.Turn.{firstStage, begun, ready, entriesIn, act, turn, turning}
 use Rattle.base.proofs.Cases.{either-way}
 use Rattle.runs.proofs.TurnLaws.{begins}
+
+-- the calls of process p that a log tells of
+abbrev callsBy : ℕ → List Entry → List Call
+callsBy p log = map callIn (entriesOf p log)
+
+-- where the script of process p starts in the calls of the file
+abbrev firstCall : RunFile → ℕ → ℕ
+firstCall f p = sum (take p (f .shares))
 
 -- a longer log tells of more calls
 of-append : (p : ℕ) (l m : List Entry) → callsBy p (l ++ m) ≡ callsBy p l ++ callsBy p m

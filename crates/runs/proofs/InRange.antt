@@ -1,6 +1,6 @@
 -- No step of a run of a good file is out of range, and no slot at or above C is touched. Gone-round runs are included.
 use Prim.Native.Nat.{ℕ, _≤_}
-use mathlib.Core.Path.{_≡_, refl, sym, _∙_}
+use mathlib.Core.Path.{_≡_, refl, sym, subst, _∙_}
 use mathlib.Core.Bool.{true}
 use mathlib.Core.List.{List, []}
 use native.Mathlib.Omega.{arith}
@@ -9,6 +9,7 @@ use lib.ListN.{length, getD}
 use Rattle.range.specs.Range.{inRange}
 use Rattle.queue.specs.Step.{loadedSlot, loaded}
 use Rattle.base.proofs.Cases.{either-way, ever}
+use Rattle.queue.proofs.Below.{LoadsBelow, StoresBelow}
 use Rattle.queue.proofs.StepLaws.{loads-below, stores-below}
 use Rattle.runfile.specs.Encode.{InRanges}
 use Rattle.base.specs.Bytes.{Bytes}
@@ -28,11 +29,14 @@ pub below-C : BelowC
 below-C f h s o p lt =
     let v = sound f h s o in
     ready-case f h (Touches f s p) s v (each-scripted f h s o) p lt
-    (λ e. record { loads = loads-below (f .width) (f .size) (processAt (s .bench) p .stage) (v .each p lt .stage); stores = λ d. ever (sym e ∙ d) })
+    (λ e. record {
+      loads = λ at l. subst (LoadsBelow (f .size)) l (loads-below (f .width) (f .size) (processAt (s .bench) p .stage) (v .each p lt .stage));
+      stores = λ at node d. ever (sym e ∙ d);
+    })
     (λ r k c. record {
-      loads = loads-below (f .width) (f .size) (r .stage) (k .placed .stage);
-      stores = λ _. stores-below (f .width) (f .size) (queueAt (s .bench) (queueOf p (r .call)) .word)
-          (loaded (slotsAt s (queueOf p (r .call))) (loadedSlot (r .stage))) (r .stage) (k .placed .stage);
+      loads = λ at l. subst (LoadsBelow (f .size)) l (loads-below (f .width) (f .size) (r .stage) (k .placed .stage));
+      stores = λ at node d t. subst (StoresBelow (f .size)) t (stores-below (f .width) (f .size) (queueAt (s .bench) (queueOf p (r .call)) .word)
+          (loaded (slotsAt s (queueOf p (r .call))) (loadedSlot (r .stage))) (r .stage) (k .placed .stage));
     })
 
 pub every-step-in-range : EveryStepInRange

@@ -58,7 +58,7 @@ row-lost W C w v T1 = tt
 row-lost W C w v (T2 t g) = either-way (LostBy w (T2 t g)) (leb (w .bottom) t) (λ e. tt) (λ e. tt)
 row-lost W C w v (T3 t g b) = tt
 row-lost W C w v (T4 t g b x) = either-way (LostBy w (T4 t g b x)) (sameAge w t g) (λ e. tt)
-    (λ e. record { t = t; g = g; b = b; x = x; at = refl; changed = e })
+    (λ e. (t, g, b, x, refl, e))
 row-lost W C w v B1 = either-way (LostBy w B1) (eqb (w .bottom) 0) (λ e. tt) (λ e. tt)
 row-lost W C w v (B2 b) = tt
 row-lost W C w v (B3 b) = tt
@@ -86,15 +86,15 @@ module _ (W C p : ℕ) (r : Process) (s : State) where
 
   lost-row : (v : ℕ) → FailsT4 w (r .stage) → Three (rowOf W C w v (r .stage) .next)
   lost-row v h =
-      subst Three (sym (ap (λ (z : Stage). rowOf W C w v z .next) (h .at)
-      ∙ ap (λ (o : Stepped). o .next) (failed-T4 W C w v (h .t) (h .g) (h .b) (h .x) (h .changed)))) refl
+      subst Three (sym (ap (λ (z : Stage). rowOf W C w v z .next) (h .4)
+      ∙ ap (λ (o : Stepped). o .next) (failed-T4 W C w v (h .0) (h .1) (h .2) (h .3) (h .5)))) refl
 
 pub lost-3 : Lost3
 lost-3 f h s o p lt =
     let v = sound f h s o in
     ready-case f h (λ (r : Process). Writes3 (ending p r (s .bench) (stepping (f .width) (f .size) p r s .next))
     ↔ FailsT4 (queueAt (s .bench) (queueOf p (r .call)) .word) (r .stage)) s v (each-scripted f h s o) p lt
-    (λ e. (lost-only (f .width) (f .size) p (processAt (s .bench) p) s, λ y. ever (sym e ∙ ap isIdle (y .at))))
+    (λ e. (lost-only (f .width) (f .size) p (processAt (s .bench) p) s, λ y. ever (sym e ∙ ap isIdle (y .4))))
     (λ r k c. (
       lost-only (f .width) (f .size) p r s,
       lost-row (f .width) (f .size) p r s (loaded (slotsAt s (queueOf p (r .call))) (loadedSlot (r .stage))),

@@ -12,7 +12,8 @@ use Rattle.base.specs.Lists.{All}
 use Rattle.base.proofs.Lists.{all-snoc}
 use Rattle.base.proofs.Cases.{either-way, ever, if-set}
 use Rattle.log.specs.declared.Entry.{Entry}
-use Rattle.word.specs.Stages.{isIdle, stepsLeft}
+use Rattle.word.specs.Stages.{isIdle}
+use Rattle.word.proofs.StepsLeft.{stepsLeft}
 use Rattle.word.specs.declared.Stage.{Stage}
 use Rattle.word.specs.declared.Word.{Word}
 use Rattle.queue.specs.Step.{loadedSlot, loaded, stageAfter}
@@ -156,7 +157,7 @@ module _ (f : RunFile) where
         told-after Nil g l =
             either-way (λ (e : Entry). All Few (s .log ++ (e ∷ []))) (isTake (r .call))
             (λ e. all-snoc Few (s .log) _ (own .told) (few 4 (of-take e))) (λ e. all-snoc Few (s .log) _ (own .told) (few 7 (most-all (r .stage))))
-        told-after Lost g l = all-snoc Few (s .log) _ (own .told) (few 4 (subst (λ (z : Stage). mostIn z ≤ 4) (sym (l .at)) (omega arith)))
+        told-after Lost g l = all-snoc Few (s .log) _ (own .told) (few 4 (subst (λ (z : Stage). mostIn z ≤ 4) (sym (l .4)) (omega arith)))
         told-after Full g l = all-snoc Few (s .log) _ (own .told) (few 3 (most-push (r .stage) g))
 
         own-act : Own (act (f .width) (f .size) p r s)

@@ -6,14 +6,16 @@ use Rattle.log.specs.declared.Entry.{Entry}
 use Rattle.word.specs.{Stages.isIdle, declared.Stage.Stage, declared.Word.Word}
 use Rattle.word.specs.declared.Stage.the-variants.{T4}
 use Rattle.range.specs.Range.{inRange}
-use Rattle.queue.specs.Step.{sameAge, loadedSlot, LoadsBelow, StoresBelow}
+use Rattle.queue.specs.Step.{sameAge, loadedSlot}
+use Rattle.queue.specs.declared.Load.the-variants as load
+use Rattle.queue.specs.declared.Store.the-variants as store
 use Rattle.runfile.specs.{Check.sum, Encode.InRanges, File.RunFile, File.script, declared.Call.Call}
 use Rattle.runfile.specs.declared.Call.the-variants.{Push, Pop, Take}
 use Rattle.runs.specs.Moment.{queueOf, Ended, Nothing, ends}
 use Rattle.runs.specs.Run.{lowest, closingSteps, closed, runOf}
 use Rattle.runs.specs.State.{Process, State, queueAt, processAt}
-use Rattle.runs.specs.States.{closing, StateOf}
-use Rattle.runs.specs.Turn.{ready, stepping, ending}
+use Rattle.runs.specs.States.{closing, WhoeverSteps}
+use Rattle.runs.specs.Turn.{stepping, ending}
 
 -- a run has at most 4,096 + 48 steps
 abbrev pub StepsMost : Type 0
@@ -23,34 +25,26 @@ StepsMost = (f : RunFile) → InRanges f → closed f .bench .steps ≤ 4096 + c
 abbrev pub AllClosed : Type 0
 AllClosed = (f : RunFile) (p : ℕ) → isIdle (processAt (closed f .bench) p .stage) ≡ true
 
--- whoever steps next, in the schedule or in the closing, loads and stores slots below C only
+-- whoever steps next loads and stores slots below C only
 pub record Touches (f : RunFile) (s : State) (p : ℕ) (r : Process) : Type 0 where
-  pub loads : LoadsBelow (f .size) (loadedSlot (r .stage))
-  pub stores : isIdle (r .stage) ≡ false → StoresBelow (f .size) (stepping (f .width) (f .size) p r s .store)
+  pub loads : (at : ℕ) → loadedSlot (r .stage) ≡ load.Slot at → at < f .size
+  pub stores : (at node : ℕ) → isIdle (r .stage) ≡ false → stepping (f .width) (f .size) p r s .store ≡ store.Slot at node → at < f .size
 
 abbrev pub BelowC : Type 0
-BelowC = (f : RunFile) → InRanges f → (s : State) → StateOf f s → (p : ℕ) → p < length (f .shares)
-    → Touches f s p (ready (f .calls) (s .bench .steps) (processAt (s .bench) p))
+BelowC = WhoeverSteps Touches
 
 -- whoever steps next is in range, as the desk has it: the word and the slots of its queue, and its stage
 abbrev pub EveryStepInRange : Type 0
-EveryStepInRange = (f : RunFile) → InRanges f → (s : State) → StateOf f s → (p : ℕ) → p < length (f .shares)
-    → let r : Process = ready (f .calls) (s .bench .steps) (processAt (s .bench) p) in
-    let q : ℕ = queueOf p (r .call) in
-    inRange (f .width) (f .size) (length (getD (s .slots) q [])) (queueAt (s .bench) q .word) (r .stage) ≡ true
+EveryStepInRange = WhoeverSteps (λ f s p r. let q : ℕ = queueOf p (r .call) in
+    inRange (f .width) (f .size) (length (getD (s .slots) q [])) (queueAt (s .bench) q .word) (r .stage) ≡ true)
 
 -- so number 9 is no longer one that a run gives
 abbrev pub Never9 : Type 0
 Never9 = (file : List ℕ) → Bytes file → (room : ℕ) → runOf file room .number ≡ 9 → ⊥
 
 -- a stage at T4 that finds another age than T1 loaded
-pub record FailsT4 (w : Word) (z : Stage) : Type 0 where
-  pub t : ℕ
-  pub g : ℕ
-  pub b : ℕ
-  pub x : ℕ
-  pub at : z ≡ T4 t g b x
-  pub changed : sameAge w t g ≡ false
+abbrev pub FailsT4 : Word → Stage → Type 0
+FailsT4 w z = (t : ℕ) × (g : ℕ) × (b : ℕ) × (x : ℕ) × (z ≡ T4 t g b x) × (sameAge w t g ≡ false)
 
 abbrev pub Writes3 : Ended → Type 0
 Writes3 Nothing = ⊥
@@ -58,9 +52,8 @@ Writes3 (ends e) = e .result ≡ lost
 
 -- whoever steps next, result 3 is written exactly for NIL at T4 (C-15)
 abbrev pub Lost3 : Type 0
-Lost3 = (f : RunFile) → InRanges f → (s : State) → StateOf f s → (p : ℕ) → p < length (f .shares)
-    → let r : Process = ready (f .calls) (s .bench .steps) (processAt (s .bench) p) in
-    Writes3 (ending p r (s .bench) (stepping (f .width) (f .size) p r s .next)) ↔ FailsT4 (queueAt (s .bench) (queueOf p (r .call)) .word) (r .stage)
+Lost3 = WhoeverSteps (λ f s p r. Writes3 (ending p r (s .bench) (stepping (f .width) (f .size) p r s .next))
+    ↔ FailsT4 (queueAt (s .bench) (queueOf p (r .call)) .word) (r .stage))
 
 -- who makes step n of a run: by the schedule, and after it the lowest half-done process
 abbrev pub whoSteps : RunFile → ℕ → ℕ
@@ -89,23 +82,15 @@ entriesOf p (e ∷ es) = cond (eqb (e .process) p) (e ∷ entriesOf p es) (entri
 abbrev pub callIn : Entry → Call
 callIn e = cond (eqb (e .kind) push) (Push (e .node)) (cond (eqb (e .kind) bottomPop) Pop (Take (e .queue)))
 
--- the calls of process p that a log tells of
-abbrev pub callsBy : ℕ → List Entry → List Call
-callsBy p log = map callIn (entriesOf p log)
-
--- where the script of process p starts in the calls of the file
-abbrev pub firstCall : RunFile → ℕ → ℕ
-firstCall f p = sum (take p (f .shares))
-
--- how many calls of its script process p has begun
+-- how many calls of its script, which stands after those of the processes below it, process p has begun
 abbrev pub callsBegun : RunFile → State → ℕ → ℕ
-callsBegun f s p = processAt (s .bench) p .next - firstCall f p
+callsBegun f s p = processAt (s .bench) p .next - sum (take p (f .shares))
 
 -- every call that was begun is in the log once: of each process below P, the entries tell in order of the calls of its script that
 -- it has begun, and no other process has an entry
 pub record BegunOnce (f : RunFile) (s : State) : Type 0 where
   pub told : (p : ℕ) → p < length (f .shares) → map callIn (entriesOf p (s .log)) ≡ take (callsBegun f s p) (script f p)
-  pub place : (p : ℕ) → p < length (f .shares) → processAt (s .bench) p .next ≡ firstCall f p + callsBegun f s p
+  pub place : (p : ℕ) → p < length (f .shares) → processAt (s .bench) p .next ≡ sum (take p (f .shares)) + callsBegun f s p
   pub within : (p : ℕ) → p < length (f .shares) → callsBegun f s p ≤ getD (f .shares) p 0
   pub below : (k : ℕ) (d : Entry) → k < length (s .log) → getD (s .log) k d .process < length (f .shares)
 

@@ -1,5 +1,5 @@
 -- Where a stage stands in document 01's table, and the numbers that it carries.
-use Rattle.base.specs.Words.{ℕ, _-_, Bool, cond, _&&_, ltb, leb, eqb, List, [], _∷_, getD}
+use Rattle.base.specs.Words.{ℕ, _-_, Bool, _&&_, ltb, eqb, List, [], _∷_, getD}
 use Rattle.word.specs.declared.Stage.{Stage}
 use Rattle.word.specs.declared.Stage.the-variants.{Idle, P1, P2, P3, T1, T2, T3, T4, B1, B2, B3, B4, B5, B6, B7}
 
@@ -44,10 +44,3 @@ pastB2 s = ltb (rowNumber (B2 0)) (rowNumber s)
 -- in a bottom pop past B2 with b−1 = t: such a pop loads b first
 abbrev pub popsSlot : Stage → ℕ → Bool
 popsSlot s t = pastB2 s && eqb (firstLoaded s - 1) t
-
--- own steps that a stage still has to make at most: 3 for a push, 4 for a top pop, 7 for a bottom pop
-abbrev pub stepsLeft : Stage → ℕ
-stepsLeft s = left (rowNumber s)
-  where
-    left : ℕ → ℕ
-    left row = cond (eqb row 0) 0 (cond (leb row 3) (4 - row) (cond (leb row 7) (8 - row) (15 - row)))
