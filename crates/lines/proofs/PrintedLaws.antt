@@ -12,7 +12,8 @@ use Rattle.lines.specs.declared.words.Words.{Words}
 use Rattle.base.proofs.Cases.{if-lt}
 use Rattle.lines.specs.Line.{blank, counted, fed, ended, spelling, wordsOf, lineIn, lineOf}
 use Rattle.lines.specs.Text.{typed}
-use Rattle.lines.specs.Printed.{digits, places, nameOf, numbersOf, printed, Small}
+use Rattle.base.specs.{Bytes.Two, Lists.All}
+use Rattle.lines.specs.Printed.{digits, places, nameOf, numbersOf, printed}
 
 -- digits that follow one another, as a number after n
 abbrev counting : ℕ → List ℕ → ℕ
@@ -125,7 +126,7 @@ module _ (name a : ℕ) (ha : a < 65536) where
 abbrev spelt : Stage → ℕ
 spelt s = spelling 1 (typed (nameOf s))
 
-pub read-back : (s : Stage) → Small (numbersOf s) → lineOf (printed s) ≡ line.Stage s
+pub read-back : (s : Stage) → All Two (numbersOf s) → lineOf (printed s) ≡ line.Stage s
 read-back Idle h = refl
 read-back T1 h = refl
 read-back B1 h = refl

@@ -1,5 +1,5 @@
 -- A stage as it is printed, in the words in which it is typed: its name, and each number after a space.
-use Rattle.base.specs.Words.{ℕ, zero, suc, _+_, _/_, _%_, _<_, cond, ltb, List, [], _∷_, _++_, getD, drop}
+use Rattle.base.specs.Words.{ℕ, zero, suc, _+_, _/_, _%_, cond, ltb, List, [], _∷_, _++_, getD, drop}
 use Prim.Native.String.{String}
 use Rattle.word.specs.{declared.Stage.Stage, Stages.listed, Stages.rowNumber}
 use Rattle.lines.specs.Text.{typed}
@@ -29,8 +29,3 @@ numbersOf s = drop 1 (listed s)
 
 abbrev pub printed : Stage → List ℕ
 printed s = typed (nameOf s) ++ spaced (numbersOf s)
-
--- every number of a stage is one of 16 bits
-abbrev pub Small : List ℕ → Type 0
-Small [] = Unit {0}
-Small (n ∷ numbers) = (n < 65536) × Small numbers
