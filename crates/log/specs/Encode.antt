@@ -15,12 +15,8 @@ pub record Log : Type 0 where
 abbrev pub sectionCount : ℕ
 sectionCount = 2
 
--- the most entries, and the length of a log that has them
 abbrev pub mostEntries : ℕ
 mostEntries = 256
-
-abbrev pub longestLog : ℕ
-longestLog = logLength mostEntries
 
 -- a byte 2, then P, C; two bytes, the number of entries
 abbrev pub headBytes : ℕ → ℕ → ℕ → List ℕ

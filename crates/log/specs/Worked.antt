@@ -1,15 +1,15 @@
 -- The log's numbers, and the bytes of K1's last entry, computed.
-use Rattle.base.specs.Words.{ℕ, true, false, List, [], _∷_, _≡_, refl}
+use Rattle.base.specs.Words.{ℕ, true, false, List, [], _∷_, map, _≡_, refl}
 use Rattle.log.specs.Decode.{firstEntry, entryAt, noEntry, logLength}
-use Rattle.log.specs.Encode.{headBytes, entryBytes, longestLog}
+use Rattle.log.specs.Encode.{headBytes, entryBytes}
 use Rattle.log.specs.Numbers.{kindOf, resultOf, bearsMoment, whatOf, same, isTopNil}
 use Rattle.log.specs.declared.Entry.{Entry}
 use Rattle.log.specs.declared.What.the-variants.{Pushed, Full, BottomNil, TopNode, TopNil, TopLost}
 
-numbered : (kindOf Full ≡ 1) × (kindOf BottomNil ≡ 2) × (kindOf TopNode ≡ 3) × (resultOf Full ≡ 2) × (resultOf Pushed ≡ 1) × (resultOf TopNil ≡ 0)
-    × (bearsMoment BottomNil ≡ true) × (bearsMoment TopNil ≡ false) × (whatOf 1 2 ≡ Full) × (whatOf 3 0 ≡ TopNil)
-    × (same TopNil TopNil ≡ true) × (same TopNil BottomNil ≡ false)
-numbered = (refl, refl, refl, refl, refl, refl, refl, refl, refl, refl, refl, refl)
+numbered : (map kindOf (Full ∷ BottomNil ∷ TopNode ∷ []) ≡ 1 ∷ 2 ∷ 3 ∷ []) × (map resultOf (TopNil ∷ Pushed ∷ Full ∷ []) ≡ 0 ∷ 1 ∷ 2 ∷ [])
+    × (map bearsMoment (BottomNil ∷ TopNil ∷ []) ≡ true ∷ false ∷ []) × (whatOf 1 2 ≡ Full) × (whatOf 3 0 ≡ TopNil)
+    × (map (same TopNil) (TopNil ∷ BottomNil ∷ []) ≡ true ∷ false ∷ [])
+numbered = (refl, refl, refl, refl, refl, refl)
 
 -- C-15: NIL at T4 is 3, of a top pop only; both have no moment, and both are a top pop with NIL
 lost-race : (kindOf TopLost ≡ 3) × (resultOf TopLost ≡ 3) × (bearsMoment TopLost ≡ false) × (whatOf 3 3 ≡ TopLost) × (whatOf 2 3 ≡ BottomNil)
@@ -28,6 +28,6 @@ encoded = (refl, refl, refl)
 
 -- entry 0 after the head, no entry past the end; a log's length, and the longest
 placed : (entryAt (2 ∷ 1 ∷ 4 ∷ 0 ∷ 1 ∷ lastBytes) 0 ≡ last) × (entryAt (2 ∷ 1 ∷ 4 ∷ 0 ∷ 1 ∷ lastBytes) 1 ≡ noEntry)
-    × (logLength 3 ≡ 41) × (longestLog ≡ 3077)
+    × (logLength 3 ≡ 41) × (logLength 256 ≡ 3077)
 unfolding entryAt
 placed = (refl, refl, refl, refl)
