@@ -2,6 +2,7 @@
 pub mod Settled
 -- What an entry says, and a queue's nodes as a part of an array.
 pub mod KindLaws
+pub mod FieldLaws
 pub mod DequeLaws
 -- One rule each, as the code goes through them.
 pub mod EndLaws

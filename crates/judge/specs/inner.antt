@@ -1,4 +1,5 @@
 -- Terms of the code: a reader may skip them.
+pub mod Fields
 pub mod Order
 pub mod Replay
 pub mod Causes

@@ -8,6 +8,7 @@ ghost use Rattle.rules.specs.Contents.{bears as bearsIs};
 ghost use Rattle.rules.specs.Rules.{keeps1};
 ghost use Rattle.rules.specs.Judge.{first1};
 ghost use Rattle.judge.specs.inner.Order.{Whole};
+ghost use Rattle.judge.specs.inner.Fields.{standsIn};
 use crate::read::entry;
 use log::Entry;
 use log::What;
@@ -15,28 +16,38 @@ use log::What;
 // The last step at which a call may end, by rule 1.
 const LAST_END: u16 = 32766;
 
-// Rule 1, phrase by phrase.
+// What a call and its result may be, each as bit 4 × kind + result: of the entries with a node, and of those with none.
+const WITH_NODE: u16 = (1 << (4 * log::PUSH + log::DONE))
+    + (1 << (4 * log::PUSH + log::FULL))
+    + (1 << (4 * log::BOTTOM_POP + log::DONE))
+    + (1 << (4 * log::TOP_POP + log::DONE));
+
+const WITHOUT_NODE: u16 = (1 << (4 * log::BOTTOM_POP + log::NIL))
+    + (1 << (4 * log::TOP_POP + log::NIL))
+    + (1 << (4 * log::TOP_POP + log::LOST));
+
+// Whether kind and result stand in a table.
+fn stands(table: u16, kind: u8, result: u8) -> bool
+    ensures { λ r. ⌜ r ≡ standsIn table kind result ⌝ }
+{
+    let bit = 4 * (kind % 4) + result % 4;
+    (kind <= log::TOP_POP) & (result <= log::MOST_RESULT) & ((table >> bit) % 2 == 1)
+}
+
+// Rule 1.
 fn keeps_fields(p: u8, e: Entry) -> bool
     ensures { λ r. ⌜ r ≡ keeps1 p e ⌝ }
 {
+    let table = if e.node == 0 { WITHOUT_NODE } else { WITH_NODE };
+    let told = stands(table, e.kind, e.result);
     let process = e.process;
     let queue = e.queue;
-    let kind = e.kind;
-    let result = e.result;
     let start = e.start;
     let end = e.end;
-    let push = kind == log::PUSH;
-    let nil = result == log::NIL;
-    let lost = result == log::LOST;
     (process < p)
         & (queue < p)
-        & ((log::PUSH <= kind) & (kind <= log::TOP_POP))
-        & (result <= log::MOST_RESULT)
-        & (!(push | (kind == log::BOTTOM_POP)) | (process == queue))
-        & (!(result == log::FULL) | push)
-        & (!nil | !push)
-        & (!lost | (kind == log::TOP_POP))
-        & ((e.node == 0) == (nil | lost))
+        & told
+        & ((e.kind == log::TOP_POP) | (process == queue))
         & (start <= end)
         & (end <= LAST_END)
 }
