@@ -1,8 +1,9 @@
--- The replay of all queues in rows of 256: what a call makes of its row, and one turn.
+-- The replay of all queues in rows of one width: what a call makes of its row, and one turn.
 use mathlib.Core.Path.{_≡_, refl, sym, ap, _∙_, subst}
 use mathlib.Core.Bool.{Bool, true, false, cond, _&&_, not, and-false}
 use mathlib.Core.List.{List, [], _∷_}
 use Prim.Native.Nat.{ℕ, zero, suc, _+_, _-_, _*_, _≤_, _<_}
+use native.Mathlib.Nat.{mul-suc, mul-le-mul-left}
 use native.Mathlib.Omega.{arith}
 use native.Mathlib.Decide.{ℕ-discrete, decLt}
 use borrow.Author.Tests.{lt-ltb, ltb-true, eq-eqb, eqb-true, leb-true, leb-false}
@@ -88,52 +89,56 @@ lawful-new TopNode s t v c h = refl
 lawful-new TopNil s t v c h = refl
 lawful-new TopLost s t v c h = refl
 
-pub record Row (f : ℕ → Entry) (n : ℕ) (keys : List ℕ) (k : ℕ) (nodes : List ℕ) (q lo hi : ℕ) : Type 0 where
+pub record Row (f : ℕ → Entry) (n : ℕ) (keys : List ℕ) (width k : ℕ) (nodes : List ℕ) (q lo hi : ℕ) : Type 0 where
   pub holds : slice lo hi nodes ≡ before f n q (instant keys k)
-  pub from : 256 * q ≤ lo
+  pub from : width * q ≤ lo
   pub low : lo ≤ hi
-  pub high : hi ≤ 256 * q + k
+  pub high : hi ≤ width * q + k
 
 abbrev pub isPush : (ℕ → Entry) → List ℕ → ℕ → Bool
 isPush f keys a = same Pushed (what (f (indexAt keys a)))
 
 -- the nodes pushed by the first k calls
-pub record Added (f : ℕ → Entry) (keys : List ℕ) (k : ℕ) (added : List ℕ) (c : ℕ) : Type 0 where
-  pub long : length added ≡ 256
+pub record Added (f : ℕ → Entry) (keys : List ℕ) (width k : ℕ) (added : List ℕ) (c : ℕ) : Type 0 where
+  pub long : length added ≡ width
   pub few : c ≤ k
   pub sound : (i : ℕ) → i < c → Found (λ a. isPush f keys a && eqb (f (indexAt keys a) .node) (getD added i 0)) k
   pub all : (a : ℕ) → a < k → isPush f keys a ≡ true → Found (λ i. eqb (getD added i 0) (f (indexAt keys a) .node)) c
 
-pub record Replayed (f : ℕ → Entry) (n : ℕ) (keys : List ℕ) (k : ℕ) (nodes lo hi added : List ℕ) (c : ℕ) : Type 0 where
-  pub nodes-long : length nodes ≡ 2048
+pub record Replayed (f : ℕ → Entry) (n : ℕ) (keys : List ℕ) (width k : ℕ) (nodes lo hi added : List ℕ) (c : ℕ) : Type 0 where
+  pub nodes-long : length nodes ≡ 8 * width
   pub lo-long : length lo ≡ 8
   pub hi-long : length hi ≡ 8
-  pub row : (q : ℕ) → q < 8 → Row f n keys k nodes q (getD lo q 0) (getD hi q 0)
-  pub pushes : Added f keys k added c
+  pub row : (q : ℕ) → q < 8 → Row f n keys width k nodes q (getD lo q 0) (getD hi q 0)
+  pub pushes : Added f keys width k added c
   pub fine : (a : ℕ) → a < k → breaks4 f n (indexAt keys a) ≡ false
 
-abbrev pub rows : List ℕ
-rows = 0 ∷ 256 ∷ 512 ∷ 768 ∷ 1024 ∷ 1280 ∷ 1536 ∷ 1792 ∷ []
+abbrev pub rows : ℕ → List ℕ
+rows width = 0 ∷ width ∷ 2 * width ∷ 3 * width ∷ 4 * width ∷ 5 * width ∷ 6 * width ∷ 7 * width ∷ []
 
-row-at : (q : ℕ) → q < 8 → getD rows q 0 ≡ 256 * q
-row-at zero u = refl
-row-at (suc zero) u = refl
-row-at (suc (suc zero)) u = refl
-row-at (suc (suc (suc zero))) u = refl
-row-at (suc (suc (suc (suc zero)))) u = refl
-row-at (suc (suc (suc (suc (suc zero))))) u = refl
-row-at (suc (suc (suc (suc (suc (suc zero)))))) u = refl
-row-at (suc (suc (suc (suc (suc (suc (suc zero))))))) u = refl
-row-at (suc (suc (suc (suc (suc (suc (suc (suc q)))))))) u = absurd (omega arith)
+row-at : (width q : ℕ) → q < 8 → getD (rows width) q 0 ≡ width * q
+row-at width zero u = omega arith
+row-at width (suc zero) u = omega arith
+row-at width (suc (suc zero)) u = omega arith
+row-at width (suc (suc (suc zero))) u = omega arith
+row-at width (suc (suc (suc (suc zero)))) u = omega arith
+row-at width (suc (suc (suc (suc (suc zero))))) u = omega arith
+row-at width (suc (suc (suc (suc (suc (suc zero)))))) u = omega arith
+row-at width (suc (suc (suc (suc (suc (suc (suc zero))))))) u = omega arith
+row-at width (suc (suc (suc (suc (suc (suc (suc (suc q)))))))) u = absurd (omega arith)
 
-pub replay-start : (f : ℕ → Entry) (n : ℕ) (keys nodes added : List ℕ) → length nodes ≡ 2048 → length added ≡ 256
-    → Replayed f n keys 0 nodes rows rows added 0
-replay-start f n keys nodes added h g = record {
+-- a row ends before a later one begins
+rows-apart : (width p q : ℕ) → p < q → width * p + width ≤ width * q
+rows-apart width p q u = omega (arith, mul-suc width p, mul-le-mul-left {m = suc p} {n = q} width (omega arith))
+
+pub replay-start : (f : ℕ → Entry) (n : ℕ) (keys : List ℕ) (width : ℕ) (nodes added : List ℕ) → length nodes ≡ 8 * width → length added ≡ width
+    → Replayed f n keys width 0 nodes (rows width) (rows width) added 0
+replay-start f n keys width nodes added h g = record {
   nodes-long = h;
   lo-long = refl;
   hi-long = refl;
-  row = λ q u. let e = row-at q u in record {
-    holds = content-none nodes (getD rows q 0) (getD rows q 0) (omega arith) ∙ sym (before-start f n q);
+  row = λ q u. let e = row-at width q u in record {
+    holds = content-none nodes (getD (rows width) q 0) (getD (rows width) q 0) (omega arith) ∙ sym (before-start f n q);
     from = omega arith;
     low = omega arith;
     high = omega arith;
@@ -149,7 +154,7 @@ module _ (f : ℕ → Entry) (n : ℕ) (keys : List ℕ) (count : ℕ) (o : Orde
   abbrev j : ℕ
   j = indexAt keys k
 
-  module _ (added : List ℕ) (c : ℕ) (s : Added f keys k added c) where
+  module _ (width : ℕ) (added : List ℕ) (c : ℕ) (s : Added f keys width k added c) where
     -- whether the node was added before
     pub fresh-is : any (λ i. eqb (getD added i 0) (f j .node)) c ≡ any (λ x. addedBefore (f j) (f x)) n
     fresh-is = by-both (any (λ i. eqb (getD added i 0) (f j .node)) c) (any (λ x. addedBefore (f j) (f x)) n)
@@ -184,7 +189,7 @@ module _ (f : ℕ → Entry) (n : ℕ) (keys : List ℕ) (count : ℕ) (o : Orde
             ∙ ap (λ (i : ℕ). f i .node) (e .is) ∙ g))
 
     -- the next call's node is stored; it counts where it was pushed
-    pub added-next : (t : Bool) → t ≡ isPush f keys k → c < 256 → Added f keys (k + 1) (set added c (f j .node)) (cond t (c + 1) c)
+    pub added-next : (t : Bool) → t ≡ isPush f keys k → c < width → Added f keys width (k + 1) (set added c (f j .node)) (cond t (c + 1) c)
     added-next false e small = record {
       long = simp length-set (s .long);
       few = omega (arith, s .few);
@@ -238,7 +243,7 @@ module _ (f : ℕ → Entry) (n : ℕ) (keys : List ℕ) (count : ℕ) (o : Orde
             let ne : z .at ≡ c → ⊥ = λ g. omega (arith, z .below) in
             record { at = z .at; below = omega (arith, z .below); passes = rw (getD-set-other added c (z .at) (f j .node) 0 ne) (z .passes) }
 
-  module _ (nodes lo hi added : List ℕ) (c : ℕ) (s : Replayed f n keys k nodes lo hi added c) (small : n ≤ 256) (fields : Fields f n) where
+  module _ (width : ℕ) (nodes lo hi added : List ℕ) (c : ℕ) (s : Replayed f n keys width k nodes lo hi added c) (fits : n ≤ width) (fields : Fields f n) where
     abbrev q : ℕ
     q = f j .queue
 
@@ -251,10 +256,10 @@ module _ (f : ℕ → Entry) (n : ℕ) (keys : List ℕ) (count : ℕ) (o : Orde
     pub queue-low : q < 8
     queue-low = fields j (o .index k inside) .queue
 
-    pub hi-low : h < 2048
-    hi-low = omega (arith, s .row q queue-low .high, queue-low, o .few)
+    pub hi-low : h < 8 * width
+    hi-low = omega (arith, s .row q queue-low .high, rows-apart width q 8 queue-low, o .few)
 
-    pub added-low : c < 256
+    pub added-low : c < width
     added-low = omega (arith, s .pushes .few, o .few)
 
     pub ok-is : (old push : Bool) → push ≡ isPush f keys k → old ≡ any (λ i. eqb (getD added i 0) (f j .node)) (cond push c 0)
@@ -264,10 +269,10 @@ module _ (f : ℕ → Entry) (n : ℕ) (keys : List ℕ) (count : ℕ) (o : Orde
         (s .row q queue-low .holds ∙ sym (now-is f n keys count o q k inside) ∙ ap (before f n q) (sym (o .moment k inside)))
         ∙ lawful-new (what (f j)) (not old) (fresh f n (f j)) (f j .node) (before f n q (f j .moment)) (λ w.
         ap not (e ∙ ap (λ (t : Bool). any (λ i. eqb (getD added i 0) (f j .node)) (cond t c 0)) (p ∙ ap (same Pushed) w)
-        ∙ fresh-is added c (s .pushes)))
+        ∙ fresh-is width added c (s .pushes)))
 
     rows-next : (x : ℕ) → x < 8 → Dec (x ≡ q)
-        → Row f n keys (k + 1) (set nodes h (f j .node)) x (getD (set lo q (loAfter (what (f j)) l h)) x 0)
+        → Row f n keys width (k + 1) (set nodes h (f j .node)) x (getD (set lo q (loAfter (what (f j)) l h)) x 0)
         (getD (set hi q (hiAfter (what (f j)) l h)) x 0)
     rows-next x u (yes e) =
         let r = s .row q queue-low in
@@ -284,9 +289,9 @@ module _ (f : ℕ → Entry) (n : ℕ) (keys : List ℕ) (count : ℕ) (o : Orde
               ∙ moved-is (what (f j)) nodes l h (f j .node) (r .low) (omega (arith, hi-low, s .nodes-long))
               ∙ ap (λ (d : List ℕ). applied (what (f j)) (f j .node) d) (r .holds) ∙ sym (own-is f n keys count o k inside)
               ∙ ap (λ (y : ℕ). before f n y (instant keys (suc k))) (sym e) ∙ ap (λ (y : ℕ). before f n x (instant keys y)) step;
-          from = omega (arith, b .from, r .from);
+          from = omega (arith, b .from, r .from, ap (λ (y : ℕ). width * y) e);
           low = omega (arith, b .low);
-          high = omega (arith, b .high, r .high);
+          high = omega (arith, b .high, r .high, ap (λ (y : ℕ). width * y) e);
         }
       where
         step : suc k ≡ k + 1
@@ -311,19 +316,19 @@ module _ (f : ℕ → Entry) (n : ℕ) (keys : List ℕ) (count : ℕ) (o : Orde
 
         apart : Dec (x < q) → slice (getD lo x 0) (getD hi x 0) (set nodes h (f j .node)) ≡ slice (getD lo x 0) (getD hi x 0) nodes
         apart (yes p) = past nodes (getD lo x 0) (getD hi x 0) h (f j .node)
-            (omega (arith, s .row x u .high, s .row q queue-low .from, s .row q queue-low .low, o .few))
-        apart (no p) = ahead nodes (getD lo x 0) (getD hi x 0) h (f j .node) (omega (arith, s .row x u .from, s .row q queue-low .high, o .few))
+            (omega (arith, s .row x u .high, s .row q queue-low .from, s .row q queue-low .low, rows-apart width x q p, o .few))
+        apart (no p) = ahead nodes (getD lo x 0) (getD hi x 0) h (f j .node) (omega (arith, s .row x u .from, s .row q queue-low .high, rows-apart width q x (omega arith), o .few))
 
     -- one turn, of a lawful call
     pub replay-next : (push : Bool) → push ≡ isPush f keys k → lawfulAt f n (f j) ≡ true
-        → Replayed f n keys (k + 1) (set nodes h (f j .node)) (set lo q (loAfter (what (f j)) l h)) (set hi q (hiAfter (what (f j)) l h))
+        → Replayed f n keys width (k + 1) (set nodes h (f j .node)) (set lo q (loAfter (what (f j)) l h)) (set hi q (hiAfter (what (f j)) l h))
         (set added c (f j .node)) (cond push (c + 1) c)
     replay-next push p ok = record {
       nodes-long = simp length-set (s .nodes-long);
       lo-long = simp length-set (s .lo-long);
       hi-long = simp length-set (s .hi-long);
       row = λ x u. rows-next x u (ℕ-discrete x q);
-      pushes = added-next added c (s .pushes) push p added-low;
+      pushes = added-next width added c (s .pushes) push p added-low;
       fine = λ a u. fine a u (ℕ-discrete a k);
     }
       where
@@ -338,7 +343,7 @@ module _ (f : ℕ → Entry) (n : ℕ) (keys : List ℕ) (count : ℕ) (o : Orde
     pub record Told (e : Entry) : Type 0 where
       pub queue : e .queue < 8
       pub low : getD lo (e .queue) 0 ≤ getD hi (e .queue) 0
-      pub high : getD hi (e .queue) 0 < 2048
+      pub high : getD hi (e .queue) 0 < 8 * width
 
     pub told : (e : Entry) → e ≡ f j → Told e
     told e e₁ = subst Told (sym e₁) (record { queue = queue-low; low = s .row q queue-low .low; high = hi-low })
@@ -356,11 +361,11 @@ module _ (f : ℕ → Entry) (n : ℕ) (keys : List ℕ) (count : ℕ) (o : Orde
     pub turn-told : (e : Entry) → e ≡ f j → (did : What) (push : Bool) (a b d : ℕ) → did ≡ what e → push ≡ same Pushed (what e)
         → a ≡ loAfter did (getD lo (e .queue) 0) (getD hi (e .queue) 0) → b ≡ hiAfter did (getD lo (e .queue) 0) (getD hi (e .queue) 0)
         → d ≡ cond push (c + 1) c → lawfulAt f n (f j) ≡ true
-        → Replayed f n keys (k + 1) (set nodes (getD hi (e .queue) 0) (e .node)) (set lo (e .queue) a) (set hi (e .queue) b) (set added c (e .node)) d
+        → Replayed f n keys width (k + 1) (set nodes (getD hi (e .queue) 0) (e .node)) (set lo (e .queue) a) (set hi (e .queue) b) (set added c (e .node)) d
     turn-told e e₁ = subst (λ (e : Entry). (did : What) (push : Bool) (a b d : ℕ) → did ≡ what e → push ≡ same Pushed (what e)
         → a ≡ loAfter did (getD lo (e .queue) 0) (getD hi (e .queue) 0) → b ≡ hiAfter did (getD lo (e .queue) 0) (getD hi (e .queue) 0)
         → d ≡ cond push (c + 1) c → lawfulAt f n (f j) ≡ true
-        → Replayed f n keys (k + 1) (set nodes (getD hi (e .queue) 0) (e .node)) (set lo (e .queue) a) (set hi (e .queue) b) (set added c (e .node))
+        → Replayed f n keys width (k + 1) (set nodes (getD hi (e .queue) 0) (e .node)) (set lo (e .queue) a) (set hi (e .queue) b) (set added c (e .node))
         d)
         (sym e₁)
         (λ did push a b d e₂ e₃ e₄ e₅ e₆ ok. rw (e₄, e₅, e₆, e₂) (replay-next push e₃ ok))

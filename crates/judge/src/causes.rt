@@ -3,7 +3,7 @@ ghost use mathlib.Core.Path.{_≡_};
 ghost use mathlib.Core.Bool.{_&&_, not};
 ghost use Prim.Native.Nat.{_+_, _*_, _^_, _≤_, _<_};
 ghost use lib.Dec.{eqb, ltb, leb};
-ghost use lib.ListN.{getD};
+ghost use lib.ListN.{getD, length};
 ghost use Rattle.log.specs.Decode.{entryAt};
 ghost use Rattle.rules.specs.Search.{any};
 ghost use Rattle.rules.specs.Judge.{first5};
@@ -36,8 +36,8 @@ fn held_after(did: What, held: usize) -> usize
 }
 
 // Whether there is a next key, with a moment up to this one.
-fn due(keys: &[usize; 256], count: usize, k: usize, to: usize) -> bool
-    requires { ⌜ count ≤ 256 ⌝ }
+fn due(keys: &[usize], count: usize, k: usize, to: usize) -> bool
+    requires { ⌜ (count ≤ 256) × (count ≤ length (now keys)) ⌝ }
     ensures { λ r. ⌜ r ≡ (ltb k count && leb (momentAt (now (keys .entry)) k) to) ⌝ }
 {
     if k < count {
@@ -79,8 +79,8 @@ fn uncaused(held: &[usize; 8], filled: &[usize; 8], took: &[usize; 64], nil: Ent
 
 // The first entry that breaks rule 5, or n. Of each queue: how many nodes it holds, the moment at which it was filled, and for each process the
 // moment after its last take.
-pub(crate) fn first_uncaused(log: &[u8], n: usize, keys: &[usize; 256], count: usize) -> usize
-    requires { ⌜ Clean (entryAt (now log)) n (now keys) count × Whole (now log) n ⌝ }
+pub(crate) fn first_uncaused(log: &[u8], n: usize, keys: &[usize], count: usize) -> usize
+    requires { ⌜ Clean (entryAt (now log)) n (now keys) count × Whole (now log) n × (n ≤ length (now keys)) ⌝ }
     ensures { λ r. ⌜ r ≡ first5 (entryAt (now (log .entry))) n ⌝ }
 {
     let mut held: [usize; 8] = [0; 8];

@@ -3,6 +3,7 @@ ghost use mathlib.Core.Path.{_≡_};
 ghost use Prim.Native.Nat.{_≤_, _<_};
 ghost use Rattle.log.specs.Decode.{entryAt};
 ghost use Rattle.judge.specs.inner.Order.{Fields, EndsKept, Whole};
+ghost use Rattle.judge.specs.inner.Replay.{Roomy};
 ghost use Rattle.rules.specs.Judge.{says, momentRulesOf, rulesOf, headRight, judgeOf};
 
 mod read; // an entry
@@ -44,23 +45,53 @@ fn rules(log: &[u8], n: usize, p: u8, slots: u8) -> Verdict
     moment_rules(log, n, slots)
 }
 
-// Rules 3 to 6, which speak of moments.
+// Rules 3 to 6, which speak of moments, with arrays no larger than the log needs: the judge clears them.
 fn moment_rules(log: &[u8], n: usize, slots: u8) -> Verdict
     requires { ⌜ (n ≤ 256) × Fields (entryAt (now log)) n × EndsKept (entryAt (now log)) n × Whole (now log) n ⌝ }
     ensures { λ r. ⌜ r ≡ momentRulesOf (entryAt (now (log .entry))) n slots ⌝ }
 {
+    if n <= 8 {
+        let mut keys: [usize; 8] = [0; 8];
+        let mut nodes: [u16; 64] = [0; 64];
+        let mut added: [u16; 8] = [0; 8];
+        return moment_rules_in(log, n, slots, &mut keys, &mut nodes, &mut added, 8);
+    }
+    if n <= 32 {
+        let mut keys: [usize; 32] = [0; 32];
+        let mut nodes: [u16; 256] = [0; 256];
+        let mut added: [u16; 32] = [0; 32];
+        return moment_rules_in(log, n, slots, &mut keys, &mut nodes, &mut added, 32);
+    }
     let mut keys: [usize; 256] = [0; 256];
-    let sorted = order::by_moment(log, n, &mut keys);
+    let mut nodes: [u16; 2048] = [0; 2048];
+    let mut added: [u16; 256] = [0; 256];
+    moment_rules_in(log, n, slots, &mut keys, &mut nodes, &mut added, 256)
+}
+
+// The same in arrays that are lent, where a queue's row has this width.
+fn moment_rules_in(
+    log: &[u8],
+    n: usize,
+    slots: u8,
+    keys: &mut [usize],
+    nodes: &mut [u16],
+    added: &mut [u16],
+    width: usize,
+) -> Verdict
+    requires { ⌜ Fields (entryAt (now log)) n × EndsKept (entryAt (now log)) n × Whole (now log) n × Roomy n width (now keys) (now nodes) (now added) ⌝ }
+    ensures { λ r. ⌜ r ≡ momentRulesOf (entryAt (now (log .entry))) n slots ⌝ }
+{
+    let sorted = order::by_moment(log, n, keys);
     let j3 = sorted.bad;
     if j3 < n {
         return verdict_of(16, j3);
     }
     let count = sorted.count;
-    let j4 = replay::first_unlawful(log, n, &keys, count);
+    let j4 = replay::first_unlawful(log, n, keys, count, nodes, added, width);
     if j4 < n {
         return verdict_of(17, j4);
     }
-    let j5 = causes::first_uncaused(log, n, &keys, count);
+    let j5 = causes::first_uncaused(log, n, keys, count);
     if j5 < n {
         return verdict_of(18, j5);
     }

@@ -1,4 +1,4 @@
-// Rule 4: all queues at once, by rising moments. Queue q's nodes lie from lo[q], the top, up to hi[q], in the q-th row of 256.
+// Rule 4: all queues at once, by rising moments. Queue q's nodes lie from lo[q], the top, up to hi[q], in the q-th row.
 ghost use mathlib.Core.Path.{_≡_};
 ghost use Prim.Native.Nat.{_+_, _^_, _≤_, _<_};
 ghost use lib.Dec.{eqb};
@@ -9,7 +9,7 @@ ghost use Rattle.rules.specs.Search.{any};
 ghost use Rattle.rules.specs.Rules.{lawful as lawfulIs};
 ghost use Rattle.rules.specs.Judge.{first4};
 ghost use Rattle.judge.specs.inner.Order.{Fields, Ordered, Whole};
-ghost use Rattle.judge.specs.inner.Replay.{loAfter, hiAfter};
+ghost use Rattle.judge.specs.inner.Replay.{loAfter, hiAfter, Roomy};
 use crate::fields::choose;
 use crate::fields::pushed;
 use crate::fields::what;
@@ -23,8 +23,8 @@ pub(crate) struct Ends {
 }
 
 // Whether a node is among the first of those that were pushed. It looks at all of them, without a test to leave, so that many are compared at once.
-fn added_in(added: &[u16; 256], count: usize, node: u16) -> bool
-    requires { ⌜ count ≤ 256 ⌝ }
+fn added_in(added: &[u16], count: usize, node: u16) -> bool
+    requires { ⌜ (count ≤ 256) × (count ≤ length (now added)) ⌝ }
     ensures { λ r. ⌜ r ≡ any (λ i. eqb (getD (now (added .entry)) i 0) node) count ⌝ }
 {
     let mut hit = false;
@@ -94,14 +94,29 @@ pub(crate) fn moved(lo: usize, hi: usize, did: What) -> Ends
 
 // The entry that breaks rule 4, the first by moment, or n. The node is put above each queue's bottom by every call; only a push then moves the bottom
 // over it.
-pub(crate) fn first_unlawful(log: &[u8], n: usize, keys: &[usize; 256], count: usize) -> usize
-    requires { ⌜ (n ≤ 256) × Fields (entryAt (now log)) n × Ordered (entryAt (now log)) n (now keys) count × Whole (now log) n ⌝ }
+pub(crate) fn first_unlawful(
+    log: &[u8],
+    n: usize,
+    keys: &[usize],
+    count: usize,
+    nodes: &mut [u16],
+    added: &mut [u16],
+    width: usize,
+) -> usize
+    requires { ⌜ Fields (entryAt (now log)) n × Ordered (entryAt (now log)) n (now keys) count × Whole (now log) n × Roomy n width (now keys) (now nodes) (now added) ⌝ }
     ensures { λ r. ⌜ r ≡ first4 (entryAt (now (log .entry))) n ⌝ }
 {
-    let mut nodes: [u16; 2048] = [0; 2048];
-    let mut lo: [usize; 8] = [0, 256, 512, 768, 1024, 1280, 1536, 1792];
-    let mut hi: [usize; 8] = [0, 256, 512, 768, 1024, 1280, 1536, 1792];
-    let mut added: [u16; 256] = [0; 256];
+    let mut lo: [usize; 8] = [
+        0,
+        width,
+        2 * width,
+        3 * width,
+        4 * width,
+        5 * width,
+        6 * width,
+        7 * width,
+    ];
+    let mut hi: [usize; 8] = lo;
     let mut c: usize = 0;
     let mut k: usize = 0;
     while k < count {
@@ -114,8 +129,8 @@ pub(crate) fn first_unlawful(log: &[u8], n: usize, keys: &[usize; 256], count: u
         let push = pushed(e);
         let l = lo[q];
         let h = hi[q];
-        let old = added_in(&added, choose(push, c, 0), node);
-        let ok = lawful(&nodes, l, h, did, node, !old);
+        let old = added_in(added, choose(push, c, 0), node);
+        let ok = lawful(nodes, l, h, did, node, !old);
         if !ok {
             return j;
         }

@@ -2,7 +2,7 @@
 use mathlib.Core.Path.{_≡_}
 use mathlib.Core.Bool.{cond}
 use mathlib.Core.List.{List}
-use Prim.Native.Nat.{ℕ, _+_, _-_, _≤_}
+use Prim.Native.Nat.{ℕ, _+_, _-_, _*_, _≤_}
 use lib.Dec.{leb}
 use lib.ListN.{length}
 use lib.Seq.{slice}
@@ -28,6 +28,14 @@ hiAfter BottomNil lo hi = hi
 hiAfter TopNode lo hi = hi
 hiAfter TopNil lo hi = hi
 hiAfter TopLost lo hi = hi
+
+-- arrays with room for n entries: the nodes of eight queues lie in rows of this width, queue q's from width × q on
+pub record Roomy (n width : ℕ) (keys nodes added : List ℕ) : Type 0 where
+  pub fits : n ≤ width
+  pub keyed : n ≤ length keys
+  pub small : width ≤ 256
+  pub rows : length nodes ≡ 8 * width
+  pub pushes : length added ≡ width
 
 -- the nodes that a log leaves in queue q lie from lo up to hi in a row of 256
 pub record LiesIn (f : ℕ → Entry) (n q : ℕ) (row : List ℕ) (lo hi : ℕ) : Type 0 where

@@ -36,7 +36,7 @@ abbrev Read : Type 0
 Read = tie.After-top-nil Inv-loop μ-loop
 
 abbrev start : Read → tie.Start Inv-loop μ-loop
-start c = c .before .before .before .before .before
+start c = c .before .before .before .before .before .before
 
 abbrev loop-at : Read → tie.At-loop Inv-loop μ-loop
 loop-at c = c .before .before .before
@@ -134,7 +134,7 @@ broken c =
 
 loop-holds : tie.Need-loop-holds Inv-loop μ-loop
 loop-holds c =
-    let a = c .before .args in (
+    let a = c .before .before .args in (
       search needs,
       search needs,
       first-start (breaks5 (entryAt (a .log .now)) (a .n)) (a .n),
@@ -145,9 +145,9 @@ loop-holds c =
 
 entry-requires : tie.Need-entry-requires Inv-loop μ-loop
 entry-requires c κs = (
-  omega (arith, c .loop-test .taken, c .before .before .before .pre .0 .small),
+  omega (arith, c .loop-test .taken, c .before .before .before .before .pre .0 .small),
   omega
-      (arith, c .loop-test .taken, c .before .before .before .pre .1),
+      (arith, c .loop-test .taken, c .before .before .before .before .pre .1),
 )
 
 add-j : tie.Need-add-j Inv-loop μ-loop
@@ -170,13 +170,17 @@ loop-again c =
     )
 
 due-requires : tie.Need-due-requires Inv-loop μ-loop
-due-requires c κs = omega (arith, start (c .before .before) .pre .0 .ordered .few, start (c .before .before) .pre .0 .small)
+due-requires c κs =
+    let p = start (c .before .before) .pre in
+    (omega (arith, p .0 .ordered .few, p .0 .small), omega (arith, p .0 .ordered .few, p .2))
 
 mul-key : tie.Need-mul-key Inv-loop μ-loop
 mul-key c = omega (arith, due-low c)
 
-element-copy-out-key : tie.Need-element-copy-out-key Inv-loop μ-loop
-element-copy-out-key c = due-low c
+shared-slice-read-key : tie.Need-shared-slice-read-key Inv-loop μ-loop
+shared-slice-read-key c =
+    let r = due-read (c .before) in
+    omega (arith, due-below (c .before), start r .pre .0 .ordered .few, start r .pre .2)
 
 entry-requires-2 : tie.Need-entry-requires-2 Inv-loop μ-loop
 entry-requires-2 c κs =
@@ -293,7 +297,7 @@ loop-again-3 c =
 
 returns-2 : tie.Need-returns-2 Inv-loop μ-loop
 returns-2 c =
-    let a = c .before .before .before .args in
+    let a = c .before .before .before .before .args in
     first-end (breaks5 (entryAt (a .log .now)) (a .n)) (c .before .loop .j) (a .n) (c .loop-test .left) ∙ c .before .loop .inv .2
 
 pub first-uncaused-spec : {M : Type 1} → statement M
@@ -313,7 +317,7 @@ first-uncaused-spec =
     (λ c. search needs)
     due-requires
     mul-key
-    element-copy-out-key
+    shared-slice-read-key
     entry-requires-2
     (λ c. search needs)
     (λ c. search needs)

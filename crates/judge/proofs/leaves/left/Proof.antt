@@ -33,16 +33,16 @@ by-moment-requires : tie.Need-by-moment-requires
 by-moment-requires c κs =
     let r = c .before in
     let n = r .number-at .ensures in
-    (omega (arith, n, whole r .few), refl, omega (arith, n, whole r .sized))
+    (omega (arith, n, whole r .few), omega (arith, n, whole r .few), omega (arith, n, whole r .sized))
 
 passed : (c : Read) → c .number-at .result ≤ first3 (entryAt (start c .args .log .now)) (c .number-at .result)
 passed c = subst (λ (n : ℕ). n ≤ first3 (entryAt (start c .args .log .now)) n) (sym (c .number-at .ensures)) (whole c .rule3)
 
 replayed-requires : tie.Need-replayed-requires
 replayed-requires c κs =
-    let r = c .before .before .before .before in
+    let r = c .before .before .before .before .before in
     let n = r .number-at .ensures in
-    let b = c .before .before .by-moment .ensures in (
+    let b = c .before .before .before .by-moment .ensures in (
       omega (arith, n, whole r .few),
       b .1 (omega (arith, b .0, passed r)),
       omega (arith, n, whole r .sized),
@@ -59,7 +59,7 @@ put-requires c κs =
 
 returns-2 : tie.Need-returns-2
 returns-2 c =
-    let r = c .before .before .before .before .before .before .before .before .before in
+    let r = c .before .before .before .before .before .before .before .before .before .before in
     let a = start r .args in
     let z = c .before .before .before .before .replayed .ensures in
     let lo = c .before .before .before .before .replayed .result .lo in
@@ -80,6 +80,7 @@ left-spec =
     (λ c κs. search needs)
     returns
     (λ c κs. search needs)
+    (λ c. search needs)
     (λ c. search needs)
     by-moment-requires
     replayed-requires

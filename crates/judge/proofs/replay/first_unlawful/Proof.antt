@@ -2,11 +2,11 @@
 -- call was unlawful.
 use mathlib.Core.Path.{_≡_, refl, sym, _∙_}
 use mathlib.Core.List.{List}
-use Prim.Native.Nat.{ℕ, _-_, _≤_, _<_}
+use Prim.Native.Nat.{ℕ, _-_, _*_, _≤_, _<_}
 use native.Mathlib.Omega.{arith}
 use borrow.Author.Needs.{needs}
 use borrow.Author.Tests.{not-true, not-false}
-use lib.ListN.{getD}
+use lib.ListN.{getD, length}
 use Rattle.log.specs.Decode.{entryAt}
 use Rattle.log.specs.declared.Entry.{Entry}
 use Rattle.rules.specs.Rules.{lawfulAt}
@@ -17,17 +17,17 @@ use Rattle.judge.proofs.replay.first_unlawful.Statement.{statement}
 use Rattle.judge.proofs.replay.first_unlawful.Tie as tie
 
 abbrev Inv-loop : tie.InvT-loop
-Inv-loop log n keys count nodes₀ lo₀ hi₀ added₀ c₀ k₀ nodes lo hi added c k = (k ≤ count) × Replayed (entryAt log) n keys k nodes lo hi added c
+Inv-loop log n keys count nodes₀ added₀ width lo₀ hi₀ c₀ k₀ nodes added lo hi c k = (k ≤ count) × Replayed (entryAt log) n keys width k nodes lo hi added c
 
 abbrev μ-loop : tie.MeasureT-loop
-μ-loop log n keys count nodes₀ lo₀ hi₀ added₀ c₀ k₀ nodes lo hi added c k = count - k
+μ-loop log n keys count nodes₀ added₀ width lo₀ hi₀ c₀ k₀ nodes added lo hi c k = count - k
 
 -- where the entry has been read: the start, the loop's variables, and the entry
 abbrev Read : Type 0
 Read = tie.After-pushed Inv-loop μ-loop
 
 abbrev start : Read → tie.Start Inv-loop μ-loop
-start c = c .before .before .before .before .before .before .before .before
+start c = c .before .before .before .before .before .before .before .before .before .before .before
 
 abbrev loop-at : Read → tie.At-loop Inv-loop μ-loop
 loop-at c = c .before .before .before .before .before .before
@@ -51,21 +51,24 @@ is : (c : Read) → got c ≡ fun c (indexAt (keys c) (at c))
 is c = c .before .before .before .entry .ensures
 
 told-of : (c : Read) → (got c .queue < 8) × (getD (loop-at c .loop .lo) (got c .queue) 0 ≤ getD (loop-at c .loop .hi) (got c .queue) 0)
-    × (getD (loop-at c .loop .hi) (got c .queue) 0 < 2048)
+    × (getD (loop-at c .loop .hi) (got c .queue) 0 < 8 * start c .args .width)
 told-of c =
     let l = loop-at c .loop in
     let a = start c .args in
     let p = start c .pre in
-    let t = told (fun c) (a .n) (keys c) (a .count) (p .2) (l .k) (below c) (l .nodes) (l .lo) (l .hi) (l .added) (l .c) (l .inv .1) (p .0) (p .1)
+    let t = told (fun c) (a .n) (keys c) (a .count) (p .1) (l .k) (below c) (a .width) (l .nodes) (l .lo) (l .hi) (l .added) (l .c) (l .inv .1) (p .3 .fits) (p .0)
     (got c) (is c) in
     (t .queue, t .low, t .high)
 
-few : (c : Read) → loop-at c .loop .c < 256
+narrow : (c : Read) → start c .args .width ≤ 256
+narrow c = start c .pre .3 .small
+
+few : (c : Read) → loop-at c .loop .c < start c .args .width
 few c =
     let l = loop-at c .loop in
     let a = start c .args in
     let p = start c .pre in
-    added-low (fun c) (a .n) (keys c) (a .count) (p .2) (l .k) (below c) (l .nodes) (l .lo) (l .hi) (l .added) (l .c) (l .inv .1) (p .0) (p .1)
+    added-low (fun c) (a .n) (keys c) (a .count) (p .1) (l .k) (below c) (a .width) (l .nodes) (l .lo) (l .hi) (l .added) (l .c) (l .inv .1) (p .3 .fits) (p .0)
 
 -- where it has been judged
 abbrev Judged : Type 0
@@ -79,27 +82,28 @@ ok-is c =
     let l = loop-at r .loop in
     let a = start r .args in
     let p = start r .pre in
-    ok-told (fun r) (a .n) (keys r) (a .count) (p .2) (l .k) (below r) (l .nodes) (l .lo) (l .hi) (l .added) (l .c) (l .inv .1) (p .0) (p .1) (got r)
+    ok-told (fun r) (a .n) (keys r) (a .count) (p .1) (l .k) (below r) (a .width) (l .nodes) (l .lo) (l .hi) (l .added) (l .c) (l .inv .1) (p .3 .fits) (p .0) (got r)
     (is r)
     _ _ _ _ _ (r .before .what .ensures) (r .pushed .ensures) (c .before .before .before .choose .ensures) (c .before .before .added-in .ensures)
     (c .lawful .ensures)
 
 loop-holds : tie.Need-loop-holds Inv-loop μ-loop
 loop-holds c =
-    let a = c .before .args in
-    (search needs, replay-start (entryAt (a .log .now)) (a .n) (a .keys .now) _ _ refl refl)
+    let a = c .before .before .before .before .args in
+    let p = c .before .before .before .before .pre .3 in
+    (search needs, replay-start (entryAt (a .log .now)) (a .n) (a .keys .now) (a .width) (a .nodes .now) (a .added .now) (p .rows) (p .pushes))
 
 mul-key : tie.Need-mul-key Inv-loop μ-loop
-mul-key c = omega (arith, c .loop-test .taken, c .before .before .before .pre .2 .few, c .before .before .before .pre .0)
+mul-key c = let p = c .before .before .before .before .before .before .pre in omega (arith, c .loop-test .taken, p .1 .few, p .3 .fits, p .3 .small)
 
-element-copy-out-key : tie.Need-element-copy-out-key Inv-loop μ-loop
-element-copy-out-key c = omega (arith, c .loop-test .taken, c .before .before .before .pre .2 .few, c .before .before .before .pre .0)
+shared-slice-read-key : tie.Need-shared-slice-read-key Inv-loop μ-loop
+shared-slice-read-key c = let p = c .before .before .before .before .before .before .before .pre in omega (arith, c .before .loop-test .taken, p .1 .few, p .3 .keyed)
 
 entry-requires : tie.Need-entry-requires Inv-loop μ-loop
 entry-requires c κs =
-    let p = c .before .before .before .before .pre in
-    let i = p .2 .index (c .before .before .loop .k) (c .before .loop-test .taken) in
-    (omega (arith, i, p .0), omega (arith, i, p .3))
+    let p = c .before .before .before .before .before .before .before .pre in
+    let i = p .1 .index (c .before .before .loop .k) (c .before .loop-test .taken) in
+    (omega (arith, i, p .3 .fits, p .3 .small), omega (arith, i, p .2))
 
 mul-l : tie.Need-mul-l Inv-loop μ-loop
 mul-l c = omega (arith, told-of c .0)
@@ -114,11 +118,12 @@ array-read-h : tie.Need-array-read-h Inv-loop μ-loop
 array-read-h c = told-of c .0
 
 added-in-requires : tie.Need-added-in-requires Inv-loop μ-loop
-added-in-requires c κs = only-le (c .before .before .pushed .result) (loop-at (c .before .before) .loop .c) _ 256 (c .choose .ensures)
-    (omega (arith, few (c .before .before)))
-
-slice-aggregate-lawful : tie.Need-slice-aggregate-lawful Inv-loop μ-loop
-slice-aggregate-lawful c = sym (loop-at (c .before .before .before .before) .loop .inv .1 .nodes-long)
+added-in-requires c κs =
+    let r = c .before .before in
+    let l = loop-at r .loop in (
+      only-le (r .pushed .result) (l .c) _ 256 (c .choose .ensures) (omega (arith, few r, narrow r)),
+      only-le (r .pushed .result) (l .c) _ (length (l .added)) (c .choose .ensures) (omega (arith, few r, l .inv .1 .pushes .long)),
+    )
 
 lawful-requires : tie.Need-lawful-requires Inv-loop μ-loop
 lawful-requires c κs = omega (
@@ -128,29 +133,31 @@ lawful-requires c κs = omega (
       (c .before .before .before .before) .loop .inv .1 .nodes-long,
 )
 
+same-length : tie.Need-same-length Inv-loop μ-loop
+same-length c = let r = c .before .before .before .before .before .before in loop-at r .loop .inv .1 .nodes-long ∙ sym (start r .pre .3 .rows)
+
+same-length-2 : tie.Need-same-length-2 Inv-loop μ-loop
+same-length-2 c = let r = c .before .before .before .before .before .before in loop-at r .loop .inv .1 .pushes .long ∙ sym (start r .pre .3 .pushes)
+
 returns : tie.Need-returns Inv-loop μ-loop
 returns c =
     let r = c .before .before .before .before .before .before in
     let l = loop-at r .loop in
     let a = start r .args in
     let p = start r .pre in
-    worst-is (fun r) (a .n) (keys r) (a .count) (p .2) (l .k) (below r)
-    (wrong-is (fun r) (a .n) (keys r) (a .count) (p .2) (l .k) (below r) (l .nodes) (l .lo) (l .hi) (l .added) (l .c) (l .inv .1) (p .0) (p .1)
+    worst-is (fun r) (a .n) (keys r) (a .count) (p .1) (l .k) (below r)
+    (wrong-is (fun r) (a .n) (keys r) (a .count) (p .1) (l .k) (below r) (a .width) (l .nodes) (l .lo) (l .hi) (l .added) (l .c) (l .inv .1) (p .3 .fits) (p .0)
     (sym (ok-is (c .before)) ∙ not-true _ (c .if1 .taken)))
     (l .inv .1 .fine)
 
 moved-requires : tie.Need-moved-requires Inv-loop μ-loop
-moved-requires c κs = (
-  told-of (c .before .before .before .before .before .before) .1,
-  omega
-      (arith, told-of (c .before .before .before .before .before .before) .2),
-)
+moved-requires c κs = let r = c .before .before .before .before .before .before in (told-of r .1, omega (arith, told-of r .2, narrow r))
 
 mul-nodes : tie.Need-mul-nodes Inv-loop μ-loop
-mul-nodes c = omega (arith, told-of (c .before .before .before .before .before .before .before) .2)
+mul-nodes c = let r = c .before .before .before .before .before .before .before in omega (arith, told-of r .2, narrow r)
 
-array-write-nodes : tie.Need-array-write-nodes Inv-loop μ-loop
-array-write-nodes c = told-of (c .before .before .before .before .before .before .before) .2
+slice-write-nodes : tie.Need-slice-write-nodes Inv-loop μ-loop
+slice-write-nodes c = let r = c .before .before .before .before .before .before .before in omega (arith, told-of r .2, loop-at r .loop .inv .1 .nodes-long)
 
 mul-lo : tie.Need-mul-lo Inv-loop μ-loop
 mul-lo c = omega (arith, told-of (c .before .before .before .before .before .before .before) .0)
@@ -165,23 +172,16 @@ array-write-hi : tie.Need-array-write-hi Inv-loop μ-loop
 array-write-hi c = told-of (c .before .before .before .before .before .before .before) .0
 
 mul-added : tie.Need-mul-added Inv-loop μ-loop
-mul-added c = omega (arith, few (c .before .before .before .before .before .before .before))
+mul-added c = let r = c .before .before .before .before .before .before .before in omega (arith, few r, narrow r)
 
-array-write-added : tie.Need-array-write-added Inv-loop μ-loop
-array-write-added c = few (c .before .before .before .before .before .before .before)
+slice-write-added : tie.Need-slice-write-added Inv-loop μ-loop
+slice-write-added c = let r = c .before .before .before .before .before .before .before in omega (arith, few r, loop-at r .loop .inv .1 .pushes .long)
 
 add-choose : tie.Need-add-choose Inv-loop μ-loop
-add-choose c = omega (arith, few (c .before .before .before .before .before .before .before))
+add-choose c = let r = c .before .before .before .before .before .before .before in omega (arith, few r, narrow r)
 
 add-k : tie.Need-add-k Inv-loop μ-loop
-add-k c = omega (
-  arith,
-  below (c .before .before .before .before .before .before .before .before),
-  start
-      (c .before .before .before .before .before .before .before .before) .pre .2 .few,
-  start
-      (c .before .before .before .before .before .before .before .before) .pre .0,
-)
+add-k c = let r = c .before .before .before .before .before .before .before .before in omega (arith, below r, start r .pre .1 .few, start r .pre .3 .fits, narrow r)
 
 loop-less : tie.Need-loop-less Inv-loop μ-loop
 loop-less c = omega (arith, below (c .before .before .before .before .before .before .before .before))
@@ -193,18 +193,24 @@ loop-again c =
     let a = start r .args in
     let p = start r .pre in (
       omega (arith, below r),
-      turn-told (fun r) (a .n) (keys r) (a .count) (p .2) (l .k) (below r) (l .nodes) (l .lo) (l .hi) (l .added) (l .c) (l .inv .1) (p .0) (p .1)
+      turn-told (fun r) (a .n) (keys r) (a .count) (p .1) (l .k) (below r) (a .width) (l .nodes) (l .lo) (l .hi) (l .added) (l .c) (l .inv .1) (p .3 .fits) (p .0)
           (got r) (is r)
           _ _ _ _ _ (r .before .what .ensures) (r .pushed .ensures) (c .before .moved .ensures .0) (c .before .moved .ensures .1)
           (c .choose2 .ensures) (sym (ok-is (c .before .before .before)) ∙ not-false _ (c .before .before .if1 .left)),
     )
 
+same-length-3 : tie.Need-same-length-3 Inv-loop μ-loop
+same-length-3 c = c .before .loop .inv .1 .nodes-long ∙ sym (c .before .before .before .before .before .before .pre .3 .rows)
+
+same-length-4 : tie.Need-same-length-4 Inv-loop μ-loop
+same-length-4 c = c .before .loop .inv .1 .pushes .long ∙ sym (c .before .before .before .before .before .before .pre .3 .pushes)
+
 returns-2 : tie.Need-returns-2 Inv-loop μ-loop
 returns-2 c =
-    let a = c .before .before .before .args in
-    let p = c .before .before .before .pre in
+    let a = c .before .before .before .before .before .before .args in
+    let p = c .before .before .before .before .before .before .pre in
     let l = c .before .loop in
-    none-worst (entryAt (a .log .now)) (a .n) (a .keys .now) (a .count) (p .2) (λ x u. l .inv .1 .fine x (omega (arith, c .loop-test .left)))
+    none-worst (entryAt (a .log .now)) (a .n) (a .keys .now) (a .count) (p .1) (λ x u. l .inv .1 .fine x (omega (arith, c .loop-test .left)))
 
 pub first-unlawful-spec : {M : Type 1} → statement M
 first-unlawful-spec =
@@ -212,9 +218,15 @@ first-unlawful-spec =
     (tie.spec
     Inv-loop
     μ-loop
+    (λ c. omega (arith, c .before .before .before .before .pre .3 .small))
+    (λ c. omega (arith, c .before .before .before .before .pre .3 .small))
+    (λ c. omega (arith, c .before .before .before .before .pre .3 .small))
+    (λ c. omega (arith, c .before .before .before .before .pre .3 .small))
+    (λ c. omega (arith, c .before .before .before .before .pre .3 .small))
+    (λ c. omega (arith, c .before .before .before .before .pre .3 .small))
     loop-holds
     mul-key
-    element-copy-out-key
+    shared-slice-read-key
     entry-requires
     (λ c. search needs)
     (λ c κs. search needs)
@@ -225,21 +237,24 @@ first-unlawful-spec =
     array-read-h
     (λ c κs. search needs)
     added-in-requires
-    slice-aggregate-lawful
     lawful-requires
+    same-length
+    same-length-2
     returns
     moved-requires
     mul-nodes
-    array-write-nodes
+    slice-write-nodes
     mul-lo
     array-write-lo
     mul-hi
     array-write-hi
     mul-added
-    array-write-added
+    slice-write-added
     add-choose
     (λ c κs. search needs)
     add-k
     loop-less
     loop-again
+    same-length-3
+    same-length-4
     returns-2)
