@@ -7,7 +7,6 @@ use native.Mathlib.Decide.{decLt}
 use borrow.Author.Tests.{eq-eqb, ne-eqb, lt-leb}
 use lib.Dec.{eqb, leb}
 use Rattle.log.specs.Numbers.{push, bottomPop, topPop, nil, full, lost, mostResult}
-use Rattle.rules.specs.Rules.{isNil}
 use Rattle.rules.specs.Search.{any}
 use Rattle.rules.proofs.SearchLaws.{any-none}
 use Rattle.judge.specs.inner.Fields.{standsIn, withNode, withoutNode}
@@ -18,7 +17,7 @@ phrases s k r none own =
     s && (leb push k && leb k topPop) && leb r mostResult
     && (not (eqb k push || eqb k bottomPop) || own)
     && (not (eqb r full) || eqb k push) && (not (eqb r nil) || not (eqb k push)) && (not (eqb r lost) || eqb k topPop)
-    && Bool·beq none (isNil r)
+    && Bool·beq none (eqb r nil || eqb r lost)
 
 abbrev looked-up : Bool → ℕ → ℕ → Bool → Bool → Bool
 looked-up s k r none own = s && standsIn (cond none withoutNode withNode) k r && (eqb k topPop || own)
