@@ -8,7 +8,8 @@ use Rattle.base.proofs.Bytes.{no-bytes, one-more, both-bytes, all-bytes, pair-b
 use Rattle.runfile.specs.declared.Call.{Call}
 use Rattle.runfile.specs.declared.Call.the-variants.{Push, Pop, Take}
 use Rattle.runfile.specs.File.{RunFile, mostProcesses}
-use Rattle.runfile.specs.Encode.{CallInRange, InRanges, callBytes, callsBytes, bytes1, bytes2, bytes3, bytes4, encode}
+use Rattle.runfile.specs.Encode.{CallInRange, InRanges, callBytes, callsBytes, encode}
+use Rattle.runfile.proofs.SectionBytes.{bytes1, bytes2, bytes3, bytes4}
 use Rattle.runfile.proofs.RangeLaws.{calls-most}
 
 call-bytes : (P : ℕ) (c : Call) → P ≤ mostProcesses → CallInRange P c → Bytes (callBytes c)

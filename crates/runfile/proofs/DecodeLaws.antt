@@ -13,7 +13,8 @@ use Rattle.runfile.specs.declared.Call.{Call}
 use Rattle.runfile.specs.declared.Coded.{Coded}
 use Rattle.runfile.specs.File.{RunFile, good, sectionCount, widthIn, sizeIn, processesIn, callsIn, stepsIn, callPlace, stepPlace, callOf}
 use Rattle.runfile.specs.File.{codedAt, callIn, wrongAfter, recordIn, fileOf}
-use Rattle.runfile.specs.Encode.{callBytes, callsBytes, bytes3, bytes4, encode}
+use Rattle.runfile.specs.Encode.{callBytes, callsBytes, encode}
+use Rattle.runfile.proofs.SectionBytes.{bytes3, bytes4}
 use Rattle.runfile.proofs.GoodLaws.{Passes, good-passes, shares-length, all-calls-length, schedule-length}
 use Rattle.runfile.proofs.RangeLaws.{call-right}
 

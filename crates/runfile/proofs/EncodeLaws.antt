@@ -17,7 +17,8 @@ use Rattle.runfile.specs.declared.Coded.the-variants.{Right}
 use Rattle.runfile.specs.Check.{_when_, sum}
 use Rattle.runfile.specs.File.{RunFile, good, longestScript, callsIn, stepsIn, callPlace, stepPlace, codedAt, callIn, callAt, firstCalls}
 use Rattle.runfile.specs.File.{pushes, repeats, wrongAfter, wrongAt, recordIn, fileOf}
-use Rattle.runfile.specs.Encode.{CallInRange, InRanges, callBytes, callsBytes, bytes3, bytes4, encode}
+use Rattle.runfile.specs.Encode.{CallInRange, InRanges, callBytes, callsBytes, encode}
+use Rattle.runfile.proofs.SectionBytes.{bytes3, bytes4}
 use Rattle.runfile.proofs.CheckLaws.{first-all, any-all}
 use Rattle.runfile.proofs.CallLaws.{listOf-same, calls-length, call-get, codedFrom, coded-drop}
 use Rattle.runfile.proofs.GoodLaws.{Passes, passes-good}

@@ -7,7 +7,8 @@ pub mod MarkLaws
 pub mod GoodLaws
 pub mod ReadingLaws
 pub mod NumberLaws
--- What is read as good is in range, and its encoding is the bytes that were read.
+-- The bytes of a file by sections. What is read as good is in range, and its encoding is the bytes that were read.
+pub mod SectionBytes
 pub mod RangeLaws
 pub mod DecodeLaws
 -- Every record in range is encoded in bytes, and read back as itself.

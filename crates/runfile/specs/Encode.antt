@@ -32,18 +32,10 @@ abbrev pub callsBytes : List Call → List ℕ
 callsBytes [] = []
 callsBytes (c ∷ cs) = callBytes c ++ callsBytes cs
 
--- the four sections
-abbrev pub bytes1 : RunFile → List ℕ
-bytes1 f = sectionCount ∷ f .width ∷ f .size ∷ []
-
-abbrev pub bytes2 : RunFile → List ℕ
-bytes2 f = length (f .shares) ∷ f .shares
-
-abbrev pub bytes3 : RunFile → List ℕ
-bytes3 f = pair (length (f .calls)) ++ callsBytes (f .calls)
-
-abbrev pub bytes4 : RunFile → List ℕ
-bytes4 f = pair (length (f .schedule)) ++ f .schedule
-
+-- section 1, section 2, section 3 and section 4
 abbrev pub encode : RunFile → List ℕ
-encode f = bytes1 f ++ (bytes2 f ++ (bytes3 f ++ bytes4 f))
+encode f =
+    (sectionCount ∷ f .width ∷ f .size ∷ [])
+    ++ ((length (f .shares) ∷ f .shares)
+    ++ ((pair (length (f .calls)) ++ callsBytes (f .calls))
+    ++ (pair (length (f .schedule)) ++ f .schedule)))

@@ -54,9 +54,6 @@ processesIn s = byteAt s 3
 abbrev pub sharePlace : ℕ → ℕ
 sharePlace p = 4 + p
 
-abbrev pub sharesEnd : List ℕ → ℕ
-sharesEnd s = sharePlace (processesIn s)
-
 abbrev pub lengthAt : List ℕ → ℕ → ℕ
 lengthAt s p = byteAt s (sharePlace p)
 
@@ -69,13 +66,10 @@ callsBefore s p = sum (firstLengths s p)
 
 -- Section 3: the number of calls, then each call in three bytes, a code and an argument.
 abbrev pub callsIn : List ℕ → ℕ
-callsIn s = numberAt s (sharesEnd s)
+callsIn s = numberAt s (sharePlace (processesIn s))
 
 abbrev pub callPlace : ℕ → ℕ → ℕ
 callPlace processes k = 6 + processes + 3 * k
-
-abbrev pub callsStart : List ℕ → ℕ
-callsStart s = callPlace (processesIn s) 0
 
 abbrev pub callsEnd : List ℕ → ℕ
 callsEnd s = callPlace (processesIn s) (callsIn s)
@@ -156,12 +150,12 @@ abbrev pub section2 : List ℕ → ℕ
 section2 s =
     1 when s endsBefore sharePlace 0
     then 3 when outside 1 mostProcesses (processesIn s)
-    then 1 when s endsBefore sharesEnd s
+    then 1 when s endsBefore sharePlace (processesIn s)
     then 3 when any (ltb longestScript) (recordIn s .shares)
 
 abbrev pub section3 : List ℕ → ℕ
 section3 s =
-    1 when s endsBefore callsStart s
+    1 when s endsBefore callPlace (processesIn s) 0
     then 4 when not (eqb (callsIn s) (callsBefore s (processesIn s)))
     then 1 when s endsBefore callsEnd s
     then firstOf (wrongAt s (processesIn s)) (callsIn s)
@@ -204,13 +198,8 @@ numberIn (Refused n) = n
 numberIn (Good shape) = 0
 
 abbrev pub shapeOf : RunFile → Shape
-shapeOf f = record {
-  width = f .width;
-  size = f .size;
-  processes = length (f .shares);
-  calls = length (f .calls);
-  steps = length (f .schedule);
-}
+shapeOf f =
+    record { width = f .width; size = f .size; processes = length (f .shares); calls = length (f .calls); steps = length (f .schedule) }
 
 abbrev pub readingOf : Answer → Reading
 readingOf (refused n) = Refused n
