@@ -76,13 +76,13 @@ HeldIsCounted = (f : ℕ → Entry) (n P C : ℕ) → Accepted f n P C → (q m 
 abbrev pub LeftForGood : Type 0
 LeftForGood = (f : ℕ → Entry) (n q m : ℕ) → afterAll f n ≤ m → before f n q m ≡ leftIn f n q
 
--- and each node that was pushed was pushed once, and was returned once or is left in one place.
-pub record EachInOnePlace (f : ℕ → Entry) (n P : ℕ) (x : ℕ) : Type 0 where
+-- and each node x that was pushed was pushed once, and was returned once or is in one place of P queues, where queue q holds c q: what is left there.
+pub record InOnePlace (f : ℕ → Entry) (n : ℕ) (c : ℕ → List ℕ) (P x : ℕ) : Type 0 where
   pub one : timesPushed f n x ≤ 1
-  pub place : timesPushed f n x ≡ timesReturned f n x + placesOf x (leftIn f n) P
+  pub place : timesPushed f n x ≡ timesReturned f n x + placesOf x c P
 
 abbrev pub PushedOnceInOnePlace : Type 0
-PushedOnceInOnePlace = (f : ℕ → Entry) (n P C : ℕ) → Accepted f n P C → (x : ℕ) → EachInOnePlace f n P x
+PushedOnceInOnePlace = (f : ℕ → Entry) (n P C : ℕ) → Accepted f n P C → (x : ℕ) → InOnePlace f n (leftIn f n) P x
 
 -- What `left` gives for a log's bytes and a queue. The judge's 11 to 16 refuse it: the log is not whole, or rules 1 to 3 put its calls in no order.
 abbrev pub unordered : ℕ → Bool

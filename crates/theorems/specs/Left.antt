@@ -5,10 +5,10 @@ use Rattle.base.specs.{Bytes.Bytes, Lists.listOf}
 use Rattle.log.specs.Decode.{processesOf, slotsOf, entryCountOf, entryAt}
 use Rattle.log.specs.Encode.{logBytes}
 use Rattle.rules.specs.Contents.{before}
-use Rattle.rules.specs.Left.{afterAll, leftIn, nodesBy, timesPushed, timesReturned, placesOf, Leaves}
+use Rattle.rules.specs.Left.{afterAll, leftIn, nodesBy, timesPushed, timesReturned, placesOf, InOnePlace, Leaves}
 use Rattle.runs.specs.Promise.{HandsBack}
 use Rattle.runs.specs.Run.{Outcome, tableRowLength, runOf}
-use Rattle.runs.specs.Worked.{Case, room, K1, K2, K3, K4, K5, K6}
+use Rattle.runs.specs.Worked.{Case, room, K1, K2, K3, K4, K5, K6, threeQueues}
 
 -- the table's bottom, top and slot i of queue q
 abbrev pub bottomIn : List ℕ → ℕ → ℕ
@@ -41,16 +41,10 @@ pub record LeftHere (log table : List ℕ) (q : ℕ) : Type 0 where
   -- and the count of left nodes, taken from the log, is bottom less top.
   pub counted : nodesBy (entryAt log) (entryCountOf log) q (afterAll (entryAt log) (entryCountOf log)) ≡ bottomIn table q - topIn table q
 
--- The nodes with a done push are those returned plus those left, each in one place: of every node x, done pushes are the times it was returned plus
--- the places left that hold it, and at most one.
-pub record PushedReturnedLeft (log table : List ℕ) (x : ℕ) : Type 0 where
-  pub one : timesPushed (entryAt log) (entryCountOf log) x ≤ 1
-  pub place : timesPushed (entryAt log) (entryCountOf log) x
-      ≡ timesReturned (entryAt log) (entryCountOf log) x + placesOf x (onTable table) (processesOf log)
-
 pub record LeftOnTable (log table : List ℕ) : Type 0 where
   pub queues : (q : ℕ) → q < processesOf log → LeftHere log table q
-  pub nodes : (x : ℕ) → PushedReturnedLeft log table x
+  -- The nodes with a done push are those returned plus those left, each in one place.
+  pub nodes : (x : ℕ) → InOnePlace (entryAt log) (entryCountOf log) (onTable table) (processesOf log) x
 
 abbrev pub EveryRunLeaves : Type 0
 EveryRunLeaves = (file : List ℕ) → Bytes file → (room : ℕ) → runOf file room .number ≡ 0 → runOf file room .gone ≡ 0
@@ -72,22 +66,13 @@ found o q =
 abbrev leaves : List ℕ → List (List ℕ)
 leaves nodes = nodes ∷ nodes ∷ (length nodes ∷ []) ∷ []
 
--- C = 3 and three processes: 0 pushes 1, 2 and 3, pops, pushes 4; 1 pushes 11, 12 and 13, has FULL for 14, takes 1; 2 pushes 21, pops twice, pushes 22,
--- takes 11
-abbrev three : List ℕ
-three =
-    2 ∷ 16 ∷ 3 ∷ 3 ∷ 5 ∷ 5 ∷ 5 ∷ 0 ∷ 15
-    ∷ 1 ∷ 0 ∷ 1 ∷ 1 ∷ 0 ∷ 2 ∷ 1 ∷ 0 ∷ 3 ∷ 2 ∷ 0 ∷ 0 ∷ 1 ∷ 0 ∷ 4
-    ∷ 1 ∷ 0 ∷ 11 ∷ 1 ∷ 0 ∷ 12 ∷ 1 ∷ 0 ∷ 13 ∷ 1 ∷ 0 ∷ 14 ∷ 3 ∷ 0 ∷ 0
-    ∷ 1 ∷ 0 ∷ 21 ∷ 2 ∷ 0 ∷ 0 ∷ 2 ∷ 0 ∷ 0 ∷ 1 ∷ 0 ∷ 22 ∷ 3 ∷ 0 ∷ 1
-    ∷ 0 ∷ 46 ∷ replicate 16 0 ++ replicate 14 1 ++ replicate 16 2
-
 pub worked : map (λ (k : Case). found (runOf (k .file) (room k)) 0) (K1 ∷ K2 ∷ K3 ∷ K5 ∷ K6 ∷ [])
     ≡ leaves [] ∷ leaves [] ∷ leaves (6 ∷ []) ∷ leaves (3 ∷ []) ∷ leaves (7 ∷ []) ∷ []
 unfolding runOf logBytes entryAt before
 worked = refl
 
-pub worked-three : map (found (runOf three 185)) (0 ∷ 1 ∷ 2 ∷ []) ≡ leaves (2 ∷ 4 ∷ []) ∷ leaves (12 ∷ 13 ∷ []) ∷ leaves (22 ∷ []) ∷ []
+pub worked-three : map (found (runOf (threeQueues .file) (room threeQueues))) (0 ∷ 1 ∷ 2 ∷ [])
+    ≡ leaves (2 ∷ 4 ∷ []) ∷ leaves (12 ∷ 13 ∷ []) ∷ leaves (22 ∷ []) ∷ []
 unfolding runOf logBytes entryAt before
 worked-three = refl
 

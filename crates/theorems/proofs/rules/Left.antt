@@ -11,7 +11,7 @@ use lib.Seq.{slice, length-slice, ext-getD, getD-take, getD-drop}
 use Rattle.base.specs.Lists.{listOf}
 use Rattle.base.proofs.Lists.{listOf-length, listOf-getD}
 use Rattle.log.specs.declared.Entry.{Entry}
-use Rattle.log.specs.Decode.{entryAt, entryCountOf}
+use Rattle.log.specs.Decode.{processesOf, entryAt, entryCountOf}
 use Rattle.log.specs.Encode.{logBytes}
 use Rattle.log.proofs.EncodeLaws.{processes-decoded, slots-decoded, entry-count-decoded}
 use Rattle.word.specs.declared.Stage.{Stage}
@@ -21,7 +21,7 @@ use Rattle.runs.specs.Run.{Outcome, closed, finished, tableAt, tableRow, tableS
 use Rattle.runs.specs.State.{State, queueAt}
 use Rattle.runs.proofs.InRange.{run-cases}
 use Rattle.runs.specs.inner.Sound.{slotsAt}
-use Rattle.rules.specs.Left.{afterAll, leftIn, nodesBy, timesPushed, timesReturned, tally, placesOf}
+use Rattle.rules.specs.Left.{afterAll, leftIn, nodesBy, timesPushed, timesReturned, tally, placesOf, InOnePlace}
 use Rattle.rules.proofs.AcceptedLaws.{entries-are}
 use Rattle.rules.proofs.CountLaws.{sum-same}
 use Rattle.rules.proofs.LeftLaws.{left-for-good, held-is-counted, pushed-once-in-one-place}
@@ -30,7 +30,7 @@ use Rattle.theorems.proofs.queue.Inv.{pending}
 use Rattle.theorems.proofs.queue.Memory.{memoryAt, asOwner, lim, until}
 use Rattle.theorems.proofs.queues.Whole.{seat}
 use Rattle.theorems.proofs.rules.Accepted.{logOf, held, all-idle, log-accepted}
-use Rattle.theorems.specs.Left.{bottomIn, topIn, slotIn, onTable, leftBy, LeftHere, PushedReturnedLeft, LeftOnTable, EveryRunLeaves}
+use Rattle.theorems.specs.Left.{bottomIn, topIn, slotIn, onTable, leftBy, LeftHere, LeftOnTable, EveryRunLeaves}
 
 -- the numbers of a queue in the table
 module _ (P : ℕ) (s : State) (q : ℕ) (lt : q < P) (small : P ≤ 8) where
@@ -145,7 +145,7 @@ module _ (f : RunFile) (w : InRanges f) (gone : closed f .bench .gone ≡ 0) whe
       empty [] e = refl
       empty (x ∷ c) e = absurd (omega arith)
 
-  each : (x : ℕ) → PushedReturnedLeft bytes numbers x
+  each : (x : ℕ) → InOnePlace (entryAt bytes) (entryCountOf bytes) (onTable numbers) (processesOf bytes) x
   each x =
       let o = pushed-once-in-one-place (at l) (length l) P (f .size) (log-accepted f w gone) x in
       let pushed : timesPushed (entryAt bytes) (entryCountOf bytes) x ≡ timesPushed (at l) (length l) x = said (λ e n. timesPushed e n x) in
