@@ -28,16 +28,8 @@ isTake (Take q) = true
 
 -- the entry of a call of process p, its record being r, that ends at step n
 abbrev pub entry : ℕ → ℕ → Process → What → ℕ → ℕ → Entry
-entry p n r w node moment = record {
-  process = p;
-  queue = queueOf p (r .call);
-  kind = kindOf w;
-  result = resultOf w;
-  node = node;
-  start = r .start;
-  end = n;
-  moment = moment;
-}
+entry p n r w node moment =
+    record { process = p; queue = queueOf p (r .call); kind = kindOf w; result = resultOf w; node = node; start = r .start; end = n; moment = moment }
 
 -- bottom pop: NIL at B1, 2 × B1; NIL at B7, 2 × B2 + 1
 abbrev pub nilMoment : ℕ → Process → ℕ

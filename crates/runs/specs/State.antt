@@ -62,12 +62,7 @@ scripted shares p = waiting (sum (take p shares)) (sum (take (suc p) shares))
 
 -- all 0 at first
 abbrev pub startBench : List ℕ → Bench
-startBench shares = record {
-  queues = replicate queueCount fresh;
-  processes = listOf queueCount (scripted shares);
-  steps = 0;
-  gone = 0;
-}
+startBench shares = record { queues = replicate queueCount fresh; processes = listOf queueCount (scripted shares); steps = 0; gone = 0 }
 
 abbrev pub start : RunFile → State
 start file = record { bench = startBench (file .shares); slots = replicate queueCount (replicate (file .size) 0); log = [] }

@@ -18,15 +18,8 @@ firstStage (Take q) = T1
 
 -- a call starts at its first step
 abbrev pub begun : ℕ → Call → Process → Process
-begun n call r = record {
-  stage = firstStage call;
-  call = call;
-  next = r .next + 1;
-  stop = r .stop;
-  start = n;
-  b2 = r .b2;
-  resetsAtT1 = r .resetsAtT1;
-}
+begun n call r =
+    record { stage = firstStage call; call = call; next = r .next + 1; stop = r .stop; start = n; b2 = r .b2; resetsAtT1 = r .resetsAtT1 }
 
 -- an idle process with a call left begins it
 abbrev pub ready : List Call → ℕ → Process → Process
@@ -87,12 +80,7 @@ act W C p r s = acted p r s (stepping W C p r s)
 
 -- an idle step counts and alters nothing
 abbrev pub idleStep : Bench → Bench
-idleStep b = record {
-  queues = b .queues;
-  processes = b .processes;
-  steps = b .steps + 1;
-  gone = b .gone;
-}
+idleStep b = record { queues = b .queues; processes = b .processes; steps = b .steps + 1; gone = b .gone }
 
 abbrev pub idle : State → State
 idle s = record { bench = idleStep (s .bench); slots = s .slots; log = s .log }

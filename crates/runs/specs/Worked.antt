@@ -126,10 +126,10 @@ abbrev pub room : Case → ℕ
 room k = logLength (length (k .entries))
 
 -- number, entries, steps and gone-round takes; the row; the log's bytes
-abbrev shown : Outcome → List (List ℕ)
+abbrev pub shown : Outcome → List (List ℕ)
 shown o = (o .number ∷ o .entries ∷ o .steps ∷ o .gone ∷ []) ∷ take 7 (o .table) ∷ o .log ∷ []
 
-abbrev expected : Case → List (List ℕ)
+abbrev pub expected : Case → List (List ℕ)
 expected k =
     (0 ∷ length (k .entries) ∷ k .steps ∷ k .gone ∷ []) ∷ k .row
     ∷ logBytes (record { P = getD (k .file) 3 0; C = getD (k .file) 2 0; entries = k .entries }) ∷ []

@@ -9,7 +9,7 @@ use Rattle.desk.specs.declared.Answer.{Answer}
 use Rattle.runfile.specs.File.{RunFile, good, script, recordIn, fileOf}
 use Rattle.runfile.specs.declared.Call.{Call}
 use Rattle.runs.specs.Moment.{queueOf}
-use Rattle.runs.specs.Run.{play, lowest, closingSteps, closed, tableRow, tableRowLength, tableSize, Outcome, runOf, played, closingStep}
+use Rattle.runs.specs.Run.{play, lowest, closingSteps, closed, inTable, tableRowLength, tableSize, Outcome, runOf, played, closingStep}
 use Rattle.runs.specs.State.{Process, Queue, State, fresh, processAt, start}
 use Rattle.runs.specs.Turn.{firstStage, act, turn, turning}
 use Rattle.runs.specs.Worked.{Case, K1, runs}
@@ -30,13 +30,8 @@ abbrev pub freshTable : ℕ → Table
 freshTable C = record { words = replicate 8 (fresh .word); slots = replicate 8 (replicate C 0) }
 
 -- its numbers as a run gives them
-abbrev pub numberAt : ℕ → Table → ℕ → ℕ
-numberAt P t k =
-    let q : ℕ = k / tableRowLength in
-    cond (ltb q P) (getD (tableRow (wordAt t q) (slotsAt t q)) (k % tableRowLength) 0) 0
-
 abbrev pub numbers : ℕ → Table → List ℕ
-numbers P t = listOf tableSize (numberAt P t)
+numbers P t = listOf tableSize (λ k. inTable P (wordAt t (k / tableRowLength)) (t .slots) (k / tableRowLength) (k % tableRowLength))
 
 -- what the desk is lent: a process's stage, with a queue's word and slots
 pub record Lent : Type 0 where
@@ -106,11 +101,7 @@ sheetAfter W C h l = record {
 }
 
 abbrev pub freshSheet : RunFile → Sheet
-freshSheet f = record {
-  schedule = f .schedule;
-  notes = listOf 8 (λ p. record { stage = Idle; calls = script f p });
-  table = freshTable (f .size);
-}
+freshSheet f = record { schedule = f .schedule; notes = listOf 8 (λ p. record { stage = Idle; calls = script f p }); table = freshTable (f .size) }
 
 -- stages that can be lent one after another: each is the one that the sheet has next, none is refused, and after the last the run is closed
 abbrev pub Accepts : ℕ → ℕ → Sheet → List Lent → Type 0
@@ -159,25 +150,15 @@ EveryRunReplayed = (file : List ℕ) → Bytes file → (room : ℕ) (f : RunFil
 abbrev pub OnlyWay : Type 0
 OnlyWay = (W C : ℕ) (h : Sheet) (ls ms : List Lent) → Accepts W C h ls → Accepts W C h ms → ls ≡ ms
 
--- K1: what its run lends, and the table after it
+-- K1: what its run lends
 abbrev lent : ℕ → ℕ → Stage → Lent
 lent p q z = record { process = p; queue = q; stage = z }
 
-abbrev fileK1 : RunFile
-fileK1 = recordIn (K1 .file)
-
-lent-in-K1 : lentBy fileK1
+lent-in-K1 : lentBy (recordIn (K1 .file))
     ≡ lent 0 0 (P1 7) ∷ lent 0 0 (P2 7 0) ∷ lent 0 0 (P3 0) ∷ lent 1 0 T1 ∷ lent 1 0 (T2 0 0) ∷ lent 1 0 (T3 0 0 1) ∷ lent 0 0 B1 ∷ lent 0 0 (B2 1)
     ∷ lent 1 0 (T4 0 0 1 7) ∷ lent 0 0 (B3 1) ∷ lent 0 0 (B4 1 7) ∷ lent 0 0 (B5 1 7 1 0) ∷ lent 0 0 (B7 1 7 1 0) ∷ []
 unfolding lentBy
 lent-in-K1 = refl
-
-table-of-K1 : replay 8 4 (freshTable 4) (lentBy fileK1) ≡ record {
-  words = record { bottom = 0; top = 0; tag = 1 } ∷ replicate 7 (fresh .word);
-  slots = (7 ∷ 0 ∷ 0 ∷ 0 ∷ []) ∷ replicate 7 (0 ∷ 0 ∷ 0 ∷ 0 ∷ []);
-}
-unfolding lentBy
-table-of-K1 = refl
 
 -- a process with no call left, on its own queue
 lent-idle : lentBy (record { width = 8; size = 4; shares = 0 ∷ 0 ∷ []; calls = []; schedule = 1 ∷ [] }) ≡ lent 1 1 Idle ∷ []
