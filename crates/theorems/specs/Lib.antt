@@ -1,6 +1,5 @@
 -- Demand 3: every log that the bench writes without gone-round takes is accepted; and of the programs, by what they promise.
 pub mod EveryLogAccepted
-pub mod RunThenJudge
 -- What is left on the table (C-17).
 pub mod Left
 -- Tags, resets and gone-round takes.

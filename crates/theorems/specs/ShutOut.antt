@@ -30,37 +30,24 @@ pub record Judge : Type 0 where
 abbrev pub Always : Bench → (Given → Type 0) → Type 0
 Always b Holds = (file buffer : List ℕ) → Bytes file → Bytes buffer → Holds (b .gives file buffer)
 
--- a bench that refuses all files
-abbrev pub RefusesAll : Type 0
-RefusesAll = (b : Bench) → Always b (λ g. getD (g .report) 0 0 ≡ 0 → ⊥) → ⊥
-
--- one with the same log for every file
-abbrev pub SameLog : Type 0
-SameLog = (b : Bench) (log : List ℕ) → Always b (λ g. g .log ≡ log) → ⊥
-
--- one that moves nothing
-abbrev pub MovesNothing : Type 0
-MovesNothing = (b : Bench) → Always b (λ g. g .table ≡ replicate tableSize 0) → ⊥
-
--- one that does every call in its first step and idles through the others: no call would end after its start,
-abbrev pub AllAtOnce : Type 0
-AllAtOnce = (b : Bench) → Always b (λ g. (i : ℕ) → entryAt (g .log) i .end ≡ entryAt (g .log) i .start) → ⊥
-
 -- the log of a worked run, whose buffer was all 0
 abbrev pub logOf : Bench → Case → List ℕ
 logOf b k = b .gives (k .file) (replicate (room k) 0) .log
 
--- and if it gives the ends of such calls honestly, process 1, whose take of K3 begins first, would get 5
-abbrev pub FirstStepTakes : Type 0
-FirstStepTakes = (b : Bench) → ((i : ℕ) → entryAt (logOf b K3) i .process ≡ 1 → entryAt (logOf b K3) i .node ≡ 5) → ⊥
-
--- made-up counts: the gone-round takes cannot be told from the numbers of entries and steps
-abbrev pub MadeUpCounts : Type 0
-MadeUpCounts = (b : Bench) (gone : ℕ → ℕ → ℕ) → Always b (λ g. getD (g .report) 3 0 ≡ gone (getD (g .report) 1 0) (getD (g .report) 2 0)) → ⊥
-
--- a judge that always accepts, and one that never does
-abbrev pub AlwaysAccepts : Type 0
-AlwaysAccepts = (j : Judge) → ((log : List ℕ) → Bytes log → j .says log .number ≡ 0) → ⊥
-
-abbrev pub NeverAccepts : Type 0
-NeverAccepts = (j : Judge) → ((log : List ℕ) → Bytes log → j .says log .number ≡ 0 → ⊥) → ⊥
+-- none that keeps its promise is
+pub record ShutOut : Type 0 where
+  -- a bench that refuses all files,
+  pub refuses-all : (b : Bench) → Always b (λ g. getD (g .report) 0 0 ≡ 0 → ⊥) → ⊥
+  -- one with the same log for every file,
+  pub same-log : (b : Bench) (log : List ℕ) → Always b (λ g. g .log ≡ log) → ⊥
+  -- one that moves nothing,
+  pub moves-nothing : (b : Bench) → Always b (λ g. g .table ≡ replicate tableSize 0) → ⊥
+  -- one that does every call in its first step and idles through the others: no call would end after its start,
+  pub all-at-once : (b : Bench) → Always b (λ g. (i : ℕ) → entryAt (g .log) i .end ≡ entryAt (g .log) i .start) → ⊥
+  -- and if it gives the ends of such calls honestly, process 1, whose take of K3 begins first, would get 5,
+  pub first-step-takes : (b : Bench) → ((i : ℕ) → entryAt (logOf b K3) i .process ≡ 1 → entryAt (logOf b K3) i .node ≡ 5) → ⊥
+  -- one with made-up counts: the gone-round takes cannot be told from the numbers of entries and steps,
+  pub made-up-counts : (b : Bench) (gone : ℕ → ℕ → ℕ) → Always b (λ g. getD (g .report) 3 0 ≡ gone (getD (g .report) 1 0) (getD (g .report) 2 0)) → ⊥
+  -- a judge that always accepts, and one that never does
+  pub always-accepts : (j : Judge) → ((log : List ℕ) → Bytes log → j .says log .number ≡ 0) → ⊥
+  pub never-accepts : (j : Judge) → ((log : List ℕ) → Bytes log → j .says log .number ≡ 0 → ⊥) → ⊥

@@ -7,7 +7,7 @@ use Rattle.runs.proofs.PromiseLaws.{front-is}
 use Rattle.runs.specs.Run.{runOf}
 use Rattle.rules.specs.Judge.{says, judgeOf}
 use Rattle.rules.specs.declared.Verdict.{Verdict}
-use Rattle.theorems.specs.RunThenJudge.{RunThenJudge, HostRunThenJudge}
+use Rattle.theorems.specs.EveryLogAccepted.{RunThenJudge, HostRunThenJudge}
 use Rattle.theorems.proofs.rules.Accepted.{every-log-accepted}
 
 pub run-then-judge : RunThenJudge

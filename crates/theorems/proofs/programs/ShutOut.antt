@@ -13,15 +13,14 @@ use Rattle.base.proofs.Bools.{and-0, and-1}
 use Rattle.log.specs.Decode.{entryAt}
 use Rattle.log.specs.Encode.{logBytes}
 use Rattle.runs.specs.Promise.{HandsBack, reportOf}
-use Rattle.runs.specs.Run.{Outcome, runOf}
+use Rattle.runs.specs.Run.{Outcome, tableSize, runOf}
 use Rattle.runs.specs.Worked.{Case, K1, K3, K4, K5, K8, room}
 use Rattle.runs.proofs.PromiseLaws.{front-is}
 use Rattle.rules.specs.Contents.{before}
 use Rattle.rules.specs.declared.Verdict.{Verdict}
-use Rattle.theorems.specs.ShutOut as shut
-use Rattle.theorems.specs.ShutOut.{Bench, logOf}
+use Rattle.theorems.specs.ShutOut.{FrontHandedBack, Bench, Judge, Always, logOf, ShutOut}
 
-pub front-handed-back : shut.FrontHandedBack
+pub front-handed-back : FrontHandedBack
 front-handed-back file buffer written buffer′ report table h = record {
   part = front-is (runOf file (length buffer)) buffer written buffer′ report table h;
   counts = h .counts;
@@ -65,12 +64,12 @@ module _ (b : Bench) (k : Case) (bytes : fits (k .file) ≡ true) where
   table-is : b .gives (k .file) (empty k) .table ≡ outcome k .table
   table-is = handed .queues ∙ ap (λ (o : Outcome). o .table) ran
 
-pub refuses-all : shut.RefusesAll
+refuses-all : (b : Bench) → Always b (λ g. getD (g .report) 0 0 ≡ 0 → ⊥) → ⊥
 unfolding runOf
 refuses-all b h = h (K1 .file) (empty K1) (fitting (K1 .file) refl) (zeros (room K1)) (ap (λ (l : List ℕ). getD l 0 0) (report-is b K1 refl))
 
 -- K1 has three entries and K8 none
-pub same-log : shut.SameLog
+same-log : (b : Bench) (log : List ℕ) → Always b (λ g. g .log ≡ log) → ⊥
 unfolding runOf logBytes
 same-log b log h =
     let three : length log ≡ 41 = sym (ap length (h (K1 .file) (empty K1) (fitting (K1 .file) refl) (zeros (room K1)))) ∙ ap length (log-is b K1 refl) in
@@ -78,7 +77,7 @@ same-log b log h =
     omega arith
 
 -- the bottom of queue 0 is 2 after K3
-pub moves-nothing : shut.MovesNothing
+moves-nothing : (b : Bench) → Always b (λ g. g .table ≡ replicate tableSize 0) → ⊥
 unfolding runOf
 moves-nothing b h =
     let e : _≡_ {A = ℕ} 2 0 =
@@ -86,7 +85,7 @@ moves-nothing b h =
     omega arith
 
 -- the first push of K1 starts at 0 and ends at 2
-pub all-at-once : shut.AllAtOnce
+all-at-once : (b : Bench) → Always b (λ g. (i : ℕ) → entryAt (g .log) i .end ≡ entryAt (g .log) i .start) → ⊥
 unfolding runOf logBytes entryAt
 all-at-once b h =
     let e : _≡_ {A = ℕ} 2 0 =
@@ -95,7 +94,7 @@ all-at-once b h =
     omega arith
 
 -- process 1 gets nothing in K3
-pub first-step-takes : shut.FirstStepTakes
+first-step-takes : (b : Bench) → ((i : ℕ) → entryAt (logOf b K3) i .process ≡ 1 → entryAt (logOf b K3) i .node ≡ 5) → ⊥
 unfolding runOf logBytes entryAt
 first-step-takes b h =
     let e : _≡_ {A = ℕ} 0 5 =
@@ -103,7 +102,7 @@ first-step-takes b h =
     omega arith
 
 -- K4 and K5 have six entries and 25 steps both; one take of K4 is gone-round, and none of K5
-pub made-up-counts : shut.MadeUpCounts
+made-up-counts : (b : Bench) (gone : ℕ → ℕ → ℕ) → Always b (λ g. getD (g .report) 3 0 ≡ gone (getD (g .report) 1 0) (getD (g .report) 2 0)) → ⊥
 unfolding runOf
 made-up-counts b gone h =
     let one : 1 ≡ gone 6 25 = counted K4 refl 1 refl in
@@ -117,15 +116,27 @@ made-up-counts b gone h =
         ∙ ap (λ (l : List ℕ). gone (getD l 1 0) (getD l 2 0)) r
 
 -- K4's log has a node that was returned twice
-pub always-accepts : shut.AlwaysAccepts
+always-accepts : (j : Judge) → ((log : List ℕ) → Bytes log → j .says log .number ≡ 0) → ⊥
 unfolding runOf logBytes entryAt before
 always-accepts j h =
     let bytes : Bytes (outcome K4 .log) = fitting (outcome K4 .log) refl in
     let e : _≡_ {A = ℕ} 17 0 = sym (ap (λ (v : Verdict). v .number) (j .keeps (outcome K4 .log) bytes)) ∙ h (outcome K4 .log) bytes in
     omega arith
 
-pub never-accepts : shut.NeverAccepts
+never-accepts : (j : Judge) → ((log : List ℕ) → Bytes log → j .says log .number ≡ 0 → ⊥) → ⊥
 unfolding runOf logBytes entryAt before
 never-accepts j h =
     let bytes : Bytes (outcome K1 .log) = fitting (outcome K1 .log) refl in
     h (outcome K1 .log) bytes (ap (λ (v : Verdict). v .number) (j .keeps (outcome K1 .log) bytes))
+
+pub shut-out : ShutOut
+shut-out = record {
+  refuses-all = refuses-all;
+  same-log = same-log;
+  moves-nothing = moves-nothing;
+  all-at-once = all-at-once;
+  first-step-takes = first-step-takes;
+  made-up-counts = made-up-counts;
+  always-accepts = always-accepts;
+  never-accepts = never-accepts;
+}
