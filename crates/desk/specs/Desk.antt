@@ -1,10 +1,9 @@
 -- The desk: what it gives back for a stage lent with a word and slots, and the word and the slots after it. The step is the table's; a step
 -- out of range is refused with 10, before any access, and the stage is given back as lent.
-use Rattle.base.specs.Words.{ℕ, cond, List, [], _∷_, length, _≡_}
+use Rattle.base.specs.Words.{ℕ, cond, List, [], length, _≡_}
 use Rattle.range.specs.Range.{inRange}
 use Rattle.queue.specs.Step.{stored, steppedOn, stageAfter, resultOf as nextResult}
 use Rattle.word.specs.declared.{Word.Word, Stage.Stage}
-use Rattle.word.specs.declared.Stage.the-variants.{Idle}
 use Rattle.queue.specs.declared.Next.{Next}
 use Rattle.queue.specs.declared.Next.the-variants as next
 use Rattle.desk.specs.declared.Answer.{Answer}
@@ -29,25 +28,22 @@ numberOf Lost = 0
 numberOf Full = 0
 numberOf (Refused s) = 10
 
--- where the process stands after it
-abbrev pub stageOf : Answer → Stage
-stageOf (Going z) = z
-stageOf Done = Idle
-stageOf (Node x) = Idle
-stageOf Nil = Idle
-stageOf Lost = Idle
-stageOf Full = Idle
-stageOf (Refused s) = s
+-- what an answer says, in the words of the table; a refusal leaves the process at the stage that was lent
+abbrev pub nextIn : Answer → Next
+nextIn (Going z) = next.Going z
+nextIn Done = next.Done
+nextIn (Node x) = next.Node x
+nextIn Nil = next.Nil
+nextIn Lost = next.Lost
+nextIn Full = next.Full
+nextIn (Refused s) = next.Going s
 
--- of a call that ended, its result and its node as in the log: NIL at T4 is 3; FULL and done leave the node to the push
+-- where the process stands after it; and of a call that ended, its result and its node as in the log
+abbrev pub stageOf : Answer → Stage
+stageOf a = stageAfter (nextIn a)
+
 abbrev pub resultOf : Answer → List ℕ
-resultOf (Going z) = []
-resultOf Done = 1 ∷ []
-resultOf (Node x) = 1 ∷ x ∷ []
-resultOf Nil = 0 ∷ 0 ∷ []
-resultOf Lost = 3 ∷ 0 ∷ []
-resultOf Full = 2 ∷ []
-resultOf (Refused s) = []
+resultOf a = nextResult (nextIn a)
 
 -- the table's step where it is in range; else a refusal, which alters nothing and gives the stage back as lent
 abbrev pub deskAnswer : ℕ → ℕ → Word → List ℕ → Stage → Answer

@@ -70,7 +70,10 @@ steps =
     step 16 1 (word 0 0 65535) (5 ∷ []) (P2 0 0) (Going (P3 0)) (word 0 0 65535) (0 ∷ []) ∷
     step 16 1 (word 0 0 65535) (5 ∷ []) (P2 65535 0) (Going (P3 0)) (word 0 0 65535) (65535 ∷ []) ∷
     step 8 4 (word 1 0 0) (slots 7) Idle (Going Idle) (word 1 0 0) (slots 7) ∷
-    -- W = 16: the tag after 65,535 is 0, at B6 and at B7, which looks at B4's age and not at the word; a tag of 257 is not 1, though their lower bytes agree
+    -- bottom, top, b and tag as high as they may be, with a tag of eight bits and with none
+    step 8 4 (word 4 4 255) (slots 0) (T4 3 255 4 7) Lost (word 4 4 255) (slots 0) ∷
+    step 0 4 (word 4 4 0) (slots 0) (T4 3 0 4 7) Lost (word 4 4 0) (slots 0) ∷
+    -- W = 16: the tag after 65,535 is 0, at B6 and at B7, which looks at B4's age and not at the word; a tag of 257 is not 1
     step 16 4 (word 0 0 65535) (slots 7) (B6 1 7 0 65535) (Node 7) (word 0 0 0) (slots 7) ∷
     step 16 4 (word 0 1 65535) (slots 7) (B7 1 7 1 65535) Nil (word 0 0 0) (slots 7) ∷
     step 16 4 (word 0 1 8) (slots 7) (B7 1 7 1 65535) Nil (word 0 0 0) (slots 7) ∷
@@ -83,9 +86,9 @@ refusals =
     -- W not 0 to 16, C not 1 to 64, the slots not C in number
     refused 17 4 (word 0 0 0) (slots 0) B1 ∷ refused 8 0 (word 0 0 0) [] B1 ∷ refused 8 65 (word 0 0 0) (replicate 65 0) B1 ∷
     refused 8 3 (word 0 0 0) (slots 0) B1 ∷ refused 8 5 (word 0 0 0) (slots 0) B1 ∷
-    -- a bottom or top of the word above C, its tag not below 2^W; so also where the stage is idle
+    -- a bottom or top of the word above C, its tag not below 2^W; so also where the stage is idle; with no tag, a loaded one that is not 0
     refused 8 4 (word 5 0 0) (slots 0) B1 ∷ refused 8 4 (word 0 5 0) (slots 0) B1 ∷ refused 8 4 (word 0 0 256) (slots 0) B1 ∷
-    refused 0 4 (word 0 0 1) (slots 0) B1 ∷ refused 8 4 (word 5 0 0) (slots 0) Idle ∷
+    refused 0 4 (word 0 0 1) (slots 0) B1 ∷ refused 8 4 (word 5 0 0) (slots 0) Idle ∷ refused 0 4 (word 0 0 0) (slots 0) (T2 0 1) ∷
     map (refused 8 4 (word 0 0 0) (slots 0)) (
     -- a loaded b or t above C, a loaded tag not below 2^W
     P2 7 5 ∷ T3 0 0 5 ∷ B2 5 ∷ T2 5 0 ∷ B5 1 7 5 0 ∷ T2 0 256 ∷ T4 0 256 1 7 ∷ B7 1 7 0 256 ∷

@@ -11,7 +11,7 @@ use Rattle.lines.specs.declared.Line.the-variants as line
 use Rattle.lines.specs.declared.words.Words.{Words}
 use Rattle.base.proofs.Cases.{if-lt}
 use Rattle.lines.specs.Line.{blank, counted, fed, ended, spelling, wordsOf, lineIn, lineOf}
-use Rattle.lines.specs.Text.{typed}
+use Rattle.lines.specs.Line.{typed}
 use Rattle.base.specs.{Bytes.Two, Lists.All}
 use Rattle.lines.specs.Printed.{digits, places, nameOf, numbersOf, printed}
 

@@ -1,14 +1,20 @@
 -- What a line typed at the desk says: its words, byte by byte, then the table of stages. Words stand apart by blanks; a number is 0 to 65,535 in
 -- decimal, and 65,536 stands for a word that is none.
 use Rattle.base.specs.Words.{ℕ, _+_, _-_, _*_, Bool, true, false, cond, _&&_, _||_, ltb, eqb, List, [], _∷_}
-use Prim.Native.String.{String}
+use Prim.Native.Char.{code}
+use Prim.Native.String.{String, [] as empty, _∷_ as _then_}
 use Rattle.word.specs.declared.Stage.{Stage}
 use Rattle.word.specs.declared.Stage.the-variants.{Idle, P1, P2, P3, T1, T2, T3, T4, B1, B2, B3, B4, B5, B6, B7}
-use Rattle.lines.specs.{Text.typed, declared.words.Words.Words, declared.Line.Line, declared.Sizes.Sizes}
+use Rattle.lines.specs.{declared.words.Words.Words, declared.Line.Line, declared.Sizes.Sizes}
 use Rattle.lines.specs.declared.Line.the-variants as line
 use Rattle.lines.specs.declared.Why.the-variants.{Nothing, NoStage, Count, NoNumber}
 use Rattle.lines.specs.declared.Sizes.the-variants as sizes
 use Rattle.lines.specs.declared.SizesWhy.the-variants as sizes-why
+
+-- a text as the bytes that are typed for it
+abbrev pub typed : String → List ℕ
+typed empty = []
+typed (c then s) = code c ∷ typed s
 
 -- a space, a tab or a carriage return
 abbrev pub blank : ℕ → Bool

@@ -2,7 +2,7 @@
 use Rattle.base.specs.Words.{ℕ, zero, suc, _+_, _/_, _%_, cond, ltb, List, [], _∷_, _++_, getD, drop}
 use Prim.Native.String.{String}
 use Rattle.word.specs.{declared.Stage.Stage, Stages.listed, Stages.rowNumber}
-use Rattle.lines.specs.Text.{typed}
+use Rattle.lines.specs.Line.{typed}
 
 -- the last k decimal digits of n
 abbrev pub digits : ℕ → ℕ → List ℕ

@@ -3,7 +3,7 @@ use Rattle.base.specs.Words.{List, [], _∷_, map, replicate, _≡_, refl}
 use Prim.Native.String.{String}
 use Rattle.word.specs.declared.Stage.{Stage}
 use Rattle.word.specs.declared.Stage.the-variants.{Idle, P1, P2, P3, T1, T2, T3, T4, B1, B2, B3, B4, B5, B6, B7}
-use Rattle.lines.specs.{Text.typed, Line.lineOf, Line.sizesOf, declared.Line.Line, declared.Why.Why, declared.Sizes.Sizes}
+use Rattle.lines.specs.{Line.typed, Line.lineOf, Line.sizesOf, declared.Line.Line, declared.Why.Why, declared.Sizes.Sizes}
 use Rattle.lines.specs.declared.Line.the-variants as line
 use Rattle.lines.specs.declared.Why.the-variants.{Nothing, NoStage, Count, NoNumber}
 use Rattle.lines.specs.declared.Sizes.the-variants as sizes

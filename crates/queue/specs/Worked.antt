@@ -24,10 +24,13 @@ both-compared = (refl, refl, refl)
 last-node : (rowOf 8 4 (word 1 0 0) 0 (B4 2 7) ≡ leaves (word 1 0 0) (Node 7)) × (rowOf 8 4 (word 0 0 0) 0 (B4 1 7) ≡ leaves (word 0 0 0) (Going (B5 1 7 0 0)))
 last-node = (refl, refl)
 
--- B7 gives the age top 0 and the next tag; with no tag B6 finds (0, 0) and writes (0, 0): it has changed the age, and returns its node
+-- B7 gives the age top 0 and the next tag
 reset : (rowOf 2 4 (word 0 1 2) 0 (B7 1 7 0 2) ≡ resets 2 (word 0 1 2) 2 Nil) × (resets 2 (word 0 1 2) 2 Nil .word ≡ word 0 0 3)
-    × (rowOf 0 4 (word 0 0 0) 0 (B6 1 7 0 0) ≡ resets 0 (word 0 0 0) 0 (Node 7)) × (resets 0 (word 0 0 0) 0 (Node 7) .word ≡ word 0 0 0)
-reset = (refl, refl, refl, refl)
+reset = (refl, refl)
+
+-- with no tag B6 finds (0, 0) and writes (0, 0): it has changed the age, and returns its node
+no-tag : (rowOf 0 4 (word 0 0 0) 0 (B6 1 7 0 0) ≡ resets 0 (word 0 0 0) 0 (Node 7)) × (resets 0 (word 0 0 0) 0 (Node 7) .word ≡ word 0 0 0)
+no-tag = (refl, refl)
 
 -- T3 loads slot t and B3 slot b−1; P2 loads none, and stores
 loads : (loadedSlot (T3 2 0 3) ≡ Load.Slot 2) × (loadedSlot (B3 3) ≡ Load.Slot 2) × (loadedSlot (P2 7 3) ≡ Load.Nothing)
