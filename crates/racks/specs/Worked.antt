@@ -1,5 +1,5 @@
 -- The worked racks, computed on the definitions: bytes in; number, replies and log buffer out.
-use Rattle.base.specs.Words.{ℕ, List, [], _∷_, _++_, drop, replicate, _≡_, refl}
+use Rattle.base.specs.Words.{ℕ, List, [], _∷_, _++_, map, drop, replicate, _≡_, refl}
 use Rattle.log.specs.{Decode.entryAt, Encode.logBytes}
 use Rattle.rules.specs.Contents.{before}
 use Rattle.runs.specs.Run.{runOf}
@@ -11,10 +11,7 @@ abbrev lent : List ℕ → ℕ → ℕ → Answer
 lent rack log replies = answerTo (rackOf rack) (replicate log 238) (replicate replies 221)
 
 -- K1, K4, an empty file and K8: in the log buffer K8's five bytes lie over K4's log, and three bytes are as lent
-abbrev four : List ℕ
-four = rackBytes (K1 .file ∷ K4 .file ∷ [] ∷ K8 .file ∷ [])
-
-pub four-files : lent four 80 34 ≡ record {
+pub four-files : lent (rackBytes (K1 .file ∷ K4 .file ∷ [] ∷ K8 .file ∷ [])) 80 34 ≡ record {
   number = 0;
   log = (2 ∷ 1 ∷ 4 ∷ 0 ∷ 0 ∷ []) ++ (drop 5 (runOf (K4 .file) 80 .log) ++ (238 ∷ 238 ∷ 238 ∷ []));
   replies =
@@ -41,16 +38,12 @@ pub none : lent (0 ∷ 0 ∷ []) 3 0 ≡ record { number = 0; log = replicate 3 
 none = refl
 
 -- no racks: nothing, half a count, a byte after the last file, a length that is not there, a file that runs past the end
-pub refused-21 : (lent [] 3 8 ≡ refusal 21 (replicate 3 238) (replicate 8 221))
-    × (lent (0 ∷ []) 3 8 ≡ refusal 21 (replicate 3 238) (replicate 8 221))
-    × (lent (0 ∷ 0 ∷ 5 ∷ []) 3 8 ≡ refusal 21 (replicate 3 238) (replicate 8 221))
-    × (lent (0 ∷ 1 ∷ []) 3 8 ≡ refusal 21 (replicate 3 238) (replicate 8 221))
-    × (lent (0 ∷ 1 ∷ 0 ∷ 3 ∷ 2 ∷ 8 ∷ []) 3 8 ≡ refusal 21 (replicate 3 238) (replicate 8 221))
-refused-21 = (refl, refl, refl, refl, refl)
+pub refused-21 :
+    map (λ (rack : List ℕ). lent rack 3 8) ([] ∷ (0 ∷ []) ∷ (0 ∷ 0 ∷ 5 ∷ []) ∷ (0 ∷ 1 ∷ []) ∷ (0 ∷ 1 ∷ 0 ∷ 3 ∷ 2 ∷ 8 ∷ []) ∷ [])
+    ≡ replicate 5 (refusal 21 (replicate 3 238) (replicate 8 221))
+refused-21 = refl
 
 -- a reply buffer one byte short; with a byte after the file too it is no rack
-pub refused-22 : lent (rackBytes (K8 .file ∷ [])) 5 7 ≡ refusal 22 (replicate 5 238) (replicate 7 221)
-refused-22 = refl
-
-pub first-21 : lent (rackBytes (K8 .file ∷ []) ++ (0 ∷ [])) 5 7 ≡ refusal 21 (replicate 5 238) (replicate 7 221)
-first-21 = refl
+pub refused-22 : (lent (rackBytes (K8 .file ∷ [])) 5 7 ≡ refusal 22 (replicate 5 238) (replicate 7 221))
+    × (lent (rackBytes (K8 .file ∷ []) ++ (0 ∷ [])) 5 7 ≡ refusal 21 (replicate 5 238) (replicate 7 221))
+refused-22 = (refl, refl)
