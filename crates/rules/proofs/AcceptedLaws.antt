@@ -164,10 +164,10 @@ module _ (f : ℕ → Entry) (n : ℕ) where
   pub accepted-says : (P C : ℕ) → Accepted f n P C → rulesOf f n P C ≡ says 0 0
   accepted-says P C g =
       sym (says-later f n P C (says 0 0)
-      (none (breaks1 f P) n (λ j u. ap not (g .rule1 j u)))
-      (none (breaks2 f) n (λ j u. any-no (λ i. clash (f i) (f j)) j (λ i v. g .rule2 i j v u)))
+      (none (breaks1 f P) n (λ j u. ap not (fields-back P (f j) (g .rule1 j u))))
+      (none (breaks2 f) n (λ j u. any-no (λ i. clash (f i) (f j)) j (λ i v. order-back (f i) (f j) (g .rule2 i j v u))))
       (says0 f n C (says 0 0)
-      (none (breaks3 f) n (λ j u. rw (g .rule3 j u) (guarded (bears (f j)) (any (λ i. bearsAt (f j .moment) (f i)) j)
+      (none (breaks3 f) n (λ j u. rw (moment-back (f j) (g .rule3 j u)) (guarded (bears (f j)) (any (λ i. bearsAt (f j .moment) (f i)) j)
       (λ b. any-no (λ i. bearsAt (f j .moment) (f i)) j (λ i v. not-so (bearsAt (f j .moment) (f i)) (λ t.
       g .differ i j v u (and-0 (bears (f i)) (eqb (f i .moment) (f j .moment)) t) b
       (eqb-true (f i .moment) (f j .moment) (and-1 (bears (f i)) (eqb (f i .moment) (f j .moment)) t))))))))
@@ -192,9 +192,9 @@ module _ (f : ℕ → Entry) (n : ℕ) where
   accepted-from : (P C : ℕ) → n ≤ first1 f n P → n ≤ first2 f n → n ≤ first3 f n → n ≤ first4 f n → n ≤ first5 f n → n ≤ first6 f n C
       → Accepted f n P C
   accepted-from P C h1 h2 h3 h4 h5 h6 = record {
-    rule1 = λ j u. fields-back P (f j) (fields-of f n P h1 j u);
-    rule2 = λ i j u v. order-back (f i) (f j) (order-of f n h2 i j u v);
-    rule3 = λ j u. moment-back (f j) (moments-of f n h3 j u);
+    rule1 = fields-of f n P h1;
+    rule2 = order-of f n h2;
+    rule3 = moments-of f n h3;
     differ = λ i j v u b d m. let e = distinct f n h3 i j (omega arith) u b d m in omega arith;
     rule4 = λ j u. lawful-to (f j) (before f n (f j .queue) (f j .moment)) (what (f j)) (λ b.
         not-f (lawfulAt f n (f j)) (sym (ap (λ (t : Bool). t && not (lawfulAt f n (f j))) b) ∙ none-unlawful small h4 j u));

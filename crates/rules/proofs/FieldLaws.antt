@@ -12,7 +12,7 @@ use Rattle.log.specs.declared.What.the-variants.{Pushed, Full, BottomNode, Bott
 use Rattle.log.specs.Numbers.{push, bottomPop, topPop, nil, done, full, lost, mostResult, noMoment, kindOf, resultOf, what}
 use Rattle.rules.specs.Contents.{bears}
 use Rattle.rules.specs.Rules.{lastEnd, keeps1, clash, inCall, momentRight}
-use Rattle.rules.specs.inner.Fields.{IsNil, Rule1, Rule2, Rule3}
+use Rattle.rules.specs.Accepted.{IsNil, Rule1, Rule2, Rule3}
 use Rattle.base.proofs.Bools.{contra, and-i, and-0, and-1, or-l, or-r, or-e, if-so, so-if, not-i, not-e, not-f}
 
 -- the tests of rule 1, each by itself

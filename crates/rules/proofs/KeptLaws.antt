@@ -10,7 +10,7 @@ use Rattle.rules.specs.Search.{any}
 use Rattle.rules.specs.Contents.{bears}
 use Rattle.rules.specs.Rules.{keeps1, breaks1, clash, breaks2, momentRight, bearsAt, breaks3}
 use Rattle.rules.specs.Judge.{first1, first2, first3}
-use Rattle.rules.specs.inner.Fields.{Rule1, Rule2, Rule3}
+use Rattle.rules.specs.Accepted.{Rule1, Rule2, Rule3}
 use Rattle.base.proofs.Bools.{contra, and-i, or-0, or-1, not-f}
 use Rattle.rules.proofs.SearchLaws.{none-passes, any-none}
 use Rattle.rules.proofs.FieldLaws.{fields, order, moment}

@@ -19,7 +19,6 @@ use Rattle.rules.specs.Search.{count, sumTo}
 use Rattle.rules.specs.Contents.{bears, dropLast, applied, on, happens, eventAt, before}
 use Rattle.rules.specs.Judge.{says, first1, first2, first3, first4, first5, first6, orElse, judgeOf}
 use Rattle.rules.specs.Accepted.{Rule4, Accepted}
-use Rattle.rules.proofs.FieldLaws.{fields}
 use Rattle.rules.specs.Left.{afterAll, leftIn, pushes, returns, onBefore, tally, PushedBefore, ReturnedWasPushed, ReturnedOnce, HeldIsCounted, LeftForGood, InOnePlace, PushedOnceInOnePlace, unordered}
 use Rattle.base.proofs.Bools.{contra, and-i, and-0, and-1, or-e, by-both, not-so, guarded}
 use Rattle.base.proofs.Cases.{ever, if-lt, either-way}
@@ -298,7 +297,7 @@ module _ (f : ℕ → Entry) (n P C : ℕ) (a : Accepted f n P C) where
             → sumTo (λ q. count (passing t borne q (afterAll f n)) n) P ≡ count (λ i. t (f i)) n
         all t borne =
             sum-same (λ q. count (passing t borne q (afterAll f n)) n) (λ q. count (λ i. t (f i) && eqb (f i .queue) q) n) P (λ q u. whole-count t borne q)
-            ∙ count-shared (λ i. t (f i)) (λ i. f i .queue) P n (λ i u _. fields P (f i) (a .rule1 i u) .queue)
+            ∙ count-shared (λ i. t (f i)) (λ i. f i .queue) P n (λ i u _. a .rule1 i u .queue)
 
 pub returned-was-pushed : ReturnedWasPushed
 returned-was-pushed = was-pushed

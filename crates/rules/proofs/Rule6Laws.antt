@@ -19,9 +19,8 @@ use Rattle.log.specs.Numbers.{push, bottomPop, kindOf, what, same}
 use Rattle.log.proofs.NumbersLaws.{same-of, same-true}
 use Rattle.rules.specs.Contents.{bears}
 use Rattle.rules.specs.Rules.{did, since}
-use Rattle.rules.specs.Accepted.{Lists, Counts, Rule6, time, SameByMoments}
-use Rattle.rules.specs.inner.Fields.{Rule1, Rule2, Rule3}
-use Rattle.rules.proofs.FieldLaws.{fields, order, moment, what-right}
+use Rattle.rules.specs.Accepted.{Rule1, Rule2, Rule3, Lists, Counts, Rule6, time, SameByMoments}
+use Rattle.rules.proofs.FieldLaws.{what-right}
 
 -- an entry's place in the log
 abbrev place : ℕ → ℕ
@@ -261,10 +260,7 @@ rule6-map f n C j a b to back r = record {
 }
 
 pub same-by-moments : SameByMoments
-same-by-moments f n P C keeps rises stands j below full =
-    let rule1 : (j : ℕ) → j < n → Rule1 P (f j) = λ j u. fields P (f j) (keeps j u) in
-    let rule2 : (i j : ℕ) → i < j → j < n → Rule2 (f i) (f j) = λ i j u v. order (f i) (f j) (rises i j u v) in
-    let rule3 : (j : ℕ) → j < n → Rule3 (f j) = λ j u. moment (f j) (stands j u) in
+same-by-moments f n P C rule1 rule2 rule3 j below full =
     let to = by-moment f n P rule1 rule2 rule3 j below full in
     let back = by-place f n P rule1 rule2 rule3 j below full in
     (rule6-map f n C j place (λ i. time (f i)) to back, rule6-map f n C j (λ i. time (f i)) place back to)

@@ -1,11 +1,54 @@
--- When a log is accepted: rules 1 to 3 by their tests, rules 4 to 6 read aloud. This is the statement to compare with document 01, "What the judge
--- accepts"; `judged-0` in proofs/AcceptedLaws.antt shows that the judge's number is 0 exactly for the bytes of such a log.
+-- The rules read aloud: when a log is accepted. This is the statement to compare with document 01, "What the judge accepts";
+-- `judged-0` in proofs/AcceptedLaws.antt shows that the judge's number is 0 exactly for the bytes of such a log.
 use Rattle.base.specs.Words.{ℕ, suc, _+_, _*_, _<_, _≤_, true, false, cond, List, [], _∷_, _++_, length, getD, _⊎_, _↔_, _≡_}
-use Rattle.base.specs.{Bytes.Bytes, Lists.In, Lists.All, Lists.Pairs}
-use Rattle.log.specs.{declared.Entry.Entry, declared.What.What, Numbers.what, Numbers.isTopNil, Decode.firstEntry}
+use Rattle.log.specs.{declared.Entry.Entry, declared.What.What, Decode.firstEntry}
 use Rattle.log.specs.declared.What.the-variants.{Pushed, Full, BottomNode, BottomNil, TopNode, TopNil, TopLost}
+use Rattle.log.specs.Numbers.{push, bottomPop, topPop, nil, full, lost, mostResult, noMoment, what, isTopNil}
+use Rattle.base.specs.Bytes.{Bytes}
+use Rattle.base.specs.Lists.{In, All, Pairs}
 use Rattle.log.specs.Encode.{Log, InRange, logBytes}
-use Rattle.rules.specs.{Contents.bears, Contents.before, Rules.keeps1, Rules.clash, Rules.momentRight, Judge.judgeOf}
+use Rattle.rules.specs.{Contents.bears, Contents.before, Rules.lastEnd, Judge.judgeOf}
+
+-- NIL is 0, and 3 at T4
+abbrev pub IsNil : ℕ → Type 0
+IsNil result = (result ≡ nil) ⊎ (result ≡ lost)
+
+-- Rule 1. Fields:
+pub record Rule1 (P : ℕ) (e : Entry) : Type 0 where
+  -- process and queue below P;
+  pub process : e .process < P
+  pub queue : e .queue < P
+  -- kind 1 to 3, result 0 to 3;
+  pub kind-from : push ≤ e .kind
+  pub kind-to : e .kind ≤ topPop
+  pub result : e .result ≤ mostResult
+  -- a push or bottom pop on its own queue;
+  pub own : (e .kind ≡ push) ⊎ (e .kind ≡ bottomPop) → e .process ≡ e .queue
+  -- result 2 for a push only, 0 for pops only, 3 for a top pop only;
+  pub full-push : e .result ≡ full → e .kind ≡ push
+  pub nil-pop : e .result ≡ nil → e .kind ≡ push → ⊥
+  pub lost-top : e .result ≡ lost → e .kind ≡ topPop
+  -- node 0 exactly for NIL;
+  pub node-nil : e .node ≡ 0 → IsNil (e .result)
+  pub nil-node : IsNil (e .result) → e .node ≡ 0
+  -- start ≤ end ≤ 32,766.
+  pub start : e .start ≤ e .end
+  pub end : e .end ≤ lastEnd
+
+-- Rule 2, of an entry d before e in the file.
+pub record Rule2 (d e : Entry) : Type 0 where
+  -- Ends rise;
+  pub ends-rise : d .end < e .end
+  -- a process's call starts after its previous call's end.
+  pub starts-after : d .process ≡ e .process → d .end < e .start
+
+-- Rule 3.
+pub record Rule3 (e : Entry) : Type 0 where
+  -- A moment stands where the list has one, from 2 × start to 2 × end + 1 (at most 65,533 by rule 1),
+  pub from : bears e ≡ true → 2 * e .start ≤ e .moment
+  pub to : bears e ≡ true → e .moment ≤ 2 * e .end + 1
+  -- and 65,535 stands elsewhere.
+  pub none : bears e ≡ false → e .moment ≡ noMoment
 
 -- l lists the numbers of which P holds, each once, greater ones first
 pub record Lists (P : ℕ → Type 0) (l : List ℕ) : Type 0 where
@@ -63,11 +106,12 @@ module _ (f : ℕ → Entry) (n : ℕ) where
 
   -- A log f of n entries, P processes and C slots is accepted:
   pub record Accepted (P C : ℕ) : Type 0 where
-    -- Rules 1, 2 and 3, as Rules.antt has them: of each entry, of every entry with every later one, of each entry,
-    pub rule1 : (j : ℕ) → j < n → keeps1 P (f j) ≡ true
-    pub rule2 : (i j : ℕ) → i < j → j < n → clash (f i) (f j) ≡ false
-    pub rule3 : (j : ℕ) → j < n → momentRight (f j) ≡ true
-    -- and all moments differ,
+    -- Rule 1. Fields,
+    pub rule1 : (j : ℕ) → j < n → Rule1 P (f j)
+    -- Rule 2, of every entry and every later one,
+    pub rule2 : (i j : ℕ) → i < j → j < n → Rule2 (f i) (f j)
+    -- Rule 3. Moments, and all moments differ,
+    pub rule3 : (j : ℕ) → j < n → Rule3 (f j)
     pub differ : (i j : ℕ) → i < j → j < n → bears (f i) ≡ true → bears (f j) ≡ true → f i .moment ≡ f j .moment → ⊥
     -- Rule 4, just before each call's moment,
     pub rule4 : (j : ℕ) → j < n → Rule4 (f j) (before f n (f j .queue) (f j .moment)) (what (f j))
@@ -101,6 +145,5 @@ time e = cond (bears e) (e .moment) (2 * e .start)
 
 abbrev pub SameByMoments : Type 0
 SameByMoments =
-    (f : ℕ → Entry) (n P C : ℕ) → ((j : ℕ) → j < n → keeps1 P (f j) ≡ true) → ((i j : ℕ) → i < j → j < n → clash (f i) (f j) ≡ false)
-    → ((j : ℕ) → j < n → momentRight (f j) ≡ true)
+    (f : ℕ → Entry) (n P C : ℕ) → ((j : ℕ) → j < n → Rule1 P (f j)) → ((i j : ℕ) → i < j → j < n → Rule2 (f i) (f j)) → ((j : ℕ) → j < n → Rule3 (f j))
     → (j : ℕ) → j < n → what (f j) ≡ Full → Rule6 f n (λ i. i) C j ↔ Rule6 f n (λ i. time (f i)) C j

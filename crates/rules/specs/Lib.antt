@@ -6,7 +6,7 @@ pub mod Contents
 pub mod Rules
 -- What the judge says of a log's bytes: the contract of `judge`.
 pub mod Judge
--- When a log is accepted: rules 4 to 6 read aloud.
+-- The same rules read aloud: when a log is accepted.
 pub mod Accepted
 -- Old logs are judged as before.
 pub mod OldLogs
@@ -14,5 +14,3 @@ pub mod OldLogs
 pub mod Left
 -- Worked logs, computed.
 pub mod Worked
--- Terms of the code: a reader may skip them.
-pub mod inner

@@ -21,9 +21,7 @@ use Rattle.base.proofs.Cases.{if-lt, ever}
 use Rattle.runfile.specs.Encode.{InRanges}
 use Rattle.runfile.specs.File.{RunFile}
 use Rattle.runs.specs.State.{State, processAt}
-use Rattle.rules.specs.Accepted.{Rule4, EmptyIn, RemovedIn, Accepted}
-use Rattle.rules.specs.inner.Fields.{IsNil, Rule1, Rule2, Rule3}
-use Rattle.rules.proofs.FieldLaws.{fields-back, order-back, moment-back}
+use Rattle.rules.specs.Accepted.{IsNil, Rule1, Rule3, Rule4, EmptyIn, RemovedIn, Accepted}
 use Rattle.rules.proofs.Rule6Laws.{rule6-to}
 use Rattle.rules.specs.Contents.{bears, dropLast, dropFirst, applied, eventAt, before}
 use Rattle.runs.proofs.Scripts.{sizesOf}
@@ -250,12 +248,9 @@ module _ (f : RunFile) (w : InRanges f) (s : State) (h : Inv (sizesOf f) s) (j :
 
   pub rules-kept : Accepted (at l) (length l) (length (f .shares)) (f .size)
   rules-kept = record {
-    rule1 = λ i lt. fields-back (length (f .shares)) (at l i) (first-rule i lt);
-    rule2 = λ i k lt below.
-        let o = pairs-at Order noEntry l (h .order) i k lt below in
-        let r : Rule2 (at l i) (at l k) = record { ends-rise = o .ends; starts-after = o .after } in
-        order-back (at l i) (at l k) r;
-    rule3 = λ i lt. moment-back (at l i) (third-rule i lt);
+    rule1 = first-rule;
+    rule2 = λ i k lt below. let o = pairs-at Order noEntry l (h .order) i k lt below in record { ends-rise = o .ends; starts-after = o .after };
+    rule3 = third-rule;
     differ = λ i k lt below. pairs-at Order noEntry l (h .order) i k lt below .differ;
     rule4 = λ i lt. fourth-rule i lt (what (at l i)) refl (fine i lt .right);
     rule5 = λ i lt d.

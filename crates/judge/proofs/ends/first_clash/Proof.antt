@@ -11,7 +11,7 @@ use lib.Dec.{ltb}
 use lib.ListN.{getD, set}
 use Rattle.log.specs.Decode.{entryAt}
 use Rattle.log.specs.declared.Entry.{Entry}
-use Rattle.rules.specs.inner.Fields.{Rule1}
+use Rattle.rules.specs.Accepted.{Rule1}
 use Rattle.base.proofs.Bools.{or-0, or-1}
 use Rattle.rules.proofs.SearchLaws.{first-start, first-next, first-found, first-end}
 use Rattle.rules.specs.Search.{first}
