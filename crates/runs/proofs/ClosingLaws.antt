@@ -62,7 +62,7 @@ most-left (B5 b x t g) = omega arith
 most-left (B6 b x t g) = omega arith
 most-left (B7 b x t g) = omega arith
 
-none-left : (z : Stage) → stepsLeft z ≤ 0 → isIdle z ≡ true
+pub none-left : (z : Stage) → stepsLeft z ≤ 0 → isIdle z ≡ true
 none-left z h = ap isIdle (returned 0 0 (λ k. fresh .word) (λ k. 0) 0 z h)
 
 pub some-left : (z : Stage) → isIdle z ≡ false → 1 ≤ stepsLeft z
@@ -73,15 +73,15 @@ some-left z e = split (decLt 0 (stepsLeft z))
     split (no h) = absurd (true≢false (sym (none-left z (omega arith)) ∙ e))
 
 -- a step lowers what is left
-step-lowers : (W C p : ℕ) (r : Process) (s : State) → stepsLeft (stageAfter (nextOf W C p r s)) ≤ stepsLeft (r .stage) - 1
+pub step-lowers : (W C p : ℕ) (r : Process) (s : State) → stepsLeft (stageAfter (nextOf W C p r s)) ≤ stepsLeft (r .stage) - 1
 step-lowers W C p r s =
     let q : ℕ = queueOf p (r .call) in
     lowers W C (queueAt (s .bench) q .word) (loaded (getD (s .slots) q []) (loadedSlot (r .stage))) (r .stage)
 
 -- before the closing: there are eight processes, and each half-done one has made a step of its call
-record Sixes (s : State) : Type 0 where
-  eight : length (s .bench .processes) ≡ 8
-  six : (p : ℕ) → stepsLeft (processAt (s .bench) p .stage) ≤ 6
+pub record Sixes (s : State) : Type 0 where
+  pub eight : length (s .bench .processes) ≡ 8
+  pub six : (p : ℕ) → stepsLeft (processAt (s .bench) p .stage) ≤ 6
 
 act-sixes : (W C p : ℕ) (r : Process) (s : State) → Sixes s → Sixes (act W C p r s)
 unfolding act
@@ -104,7 +104,7 @@ start-sixes f = record { eight = refl; six = got-all 8 (scripted (f .shares)) (�
     got-all (suc n) of h zero = h 0
     got-all (suc n) of h (suc p) = got-all n (λ i. of (suc i)) (λ i. h (suc i)) p
 
-played-sixes : (f : RunFile) → Sixes (played f)
+pub played-sixes : (f : RunFile) → Sixes (played f)
 played-sixes f =
     play-keeps (λ n s. Sixes s) (f .width) (f .size) (f .calls) (λ n p s. turn-sixes (f .width) (f .size) (f .calls) p s)
     (f .schedule) 0 (start f) (start-sixes f)

@@ -17,20 +17,13 @@ use Rattle.runfile.specs.File.{RunFile}
 use Rattle.runfile.specs.declared.Call.{Call}
 use Rattle.runs.specs.inner.Half.{bit}
 use Rattle.runs.proofs.HalfLaws.{bit-most}
+use Rattle.runs.specs.inner.Left.{weight, total}
 use Rattle.runs.proofs.ClosingLaws.{lowest-busy}
-use Rattle.runs.proofs.Induction.{turn-keeps, closed-keeps}
+use Rattle.runs.proofs.Induction.{turn-keeps, play-keeps, closed-keeps}
 use Rattle.runs.specs.Moment.{queueOf}
-use Rattle.runs.specs.Run.{lowest, closed, closingStep}
+use Rattle.runs.specs.Run.{lowest, closed, closingStep, played}
 use Rattle.runs.specs.State.{Process, State, nobody, queueAt, processAt, scripted, start}
 use Rattle.runs.specs.Turn.{ready, processAfter, entriesIn, stepping, ending, act, turn, turning}
-
--- calls of a process that are not in the log: those that it has not begun, and the one it is in
-abbrev pub weight : Process → ℕ
-weight r = r .stop - r .next + bit (isIdle (r .stage))
-
-abbrev pub total : List Process → ℕ
-total [] = 0
-total (r ∷ rs) = weight r + total rs
 
 set-total : (rs : List Process) (p : ℕ) (x : Process) → total (set rs p x) + weight (getD rs p nobody) ≤ total rs + weight x
 set-total [] p x = omega arith
@@ -79,6 +72,10 @@ act-kept N W C p r s h k = (eight ∙ k .0, act-bounded N W C p r s h (k .1))
     eight : length (act W C p r s .bench .processes) ≡ length (s .bench .processes)
     eight = length-set (s .bench .processes) p (processAfter (s .bench .steps) (queueAt (s .bench) (queueOf p (r .call)) .resets) r (stepping W C p r s .next))
 
+pub turn-bounded : (N W C : ℕ) (calls : List Call) (p : ℕ) (s : State) → Bounded N s → Bounded N (turn W C calls p s)
+turn-bounded N W C calls p s h =
+    turn-keeps W C calls (Bounded N) p s h (λ e. act-bounded N W C p (turning calls p s) s (ready-weight calls (s .bench .steps) (processAt (s .bench) p) e) h)
+
 turn-kept : (N W C : ℕ) (calls : List Call) (p : ℕ) (s : State) → Kept N s → Kept N (turn W C calls p s)
 turn-kept N W C calls p s h =
     turn-keeps W C calls (Kept N) p s h (λ e. act-kept N W C p (turning calls p s) s (ready-weight calls (s .bench .steps) (processAt (s .bench) p) e) h)
@@ -113,10 +110,16 @@ spread l (suc n) k f h =
 share : (l : List ℕ) (p : ℕ) → weight (scripted l p) + sum (take p l) ≡ sum (take (suc p) l)
 share l p = omega (arith, first-most l p)
 
-start-bounded : (f : RunFile) → Bounded (sum (f .shares)) (start f)
+pub start-bounded : (f : RunFile) → Bounded (sum (f .shares)) (start f)
 start-bounded f =
     let more = spread (f .shares) 8 0 (scripted (f .shares)) (λ i. let e : 0 + i ≡ i = omega arith in rw e (share (f .shares) i)) in
     omega arith
+
+-- before the closing they are still so many
+pub played-bounded : (f : RunFile) → Bounded (sum (f .shares)) (played f)
+played-bounded f =
+    play-keeps (λ n. Bounded (sum (f .shares))) (f .width) (f .size) (f .calls) (λ n. turn-bounded (sum (f .shares)) (f .width) (f .size) (f .calls))
+    (f .schedule) 0 (start f) (start-bounded f)
 
 within : (N : ℕ) (s : State) → Bounded N s → length (s .log) ≤ N
 within N s h = omega arith

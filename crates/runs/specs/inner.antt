@@ -1,3 +1,4 @@
 pub mod Counted
 pub mod Half
+pub mod Left
 pub mod Sound
