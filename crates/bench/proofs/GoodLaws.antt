@@ -2,7 +2,7 @@
 use Prim.Native.Nat.{ℕ, zero, suc, _+_, _-_, _*_, _≤_, _<_}
 use mathlib.Core.Path.{_≡_, refl, sym, ap, _∙_, subst}
 use mathlib.Core.Bool.{Bool, true, false, cond}
-use mathlib.Core.List.{List, [], _∷_, append-assoc, append-nil}
+use mathlib.Core.List.{List, [], _∷_}
 use native.Mathlib.Omega.{arith}
 use lib.Dec.{ltb}
 use lib.ListN.{length, getD, take, drop, replicate, length-replicate, getD-replicate, length-drop, List·getD-eq-default}
@@ -20,14 +20,18 @@ use Rattle.runfile.proofs.ReadingLaws.{reading-good, reading-refused}
 use Rattle.runfile.specs.declared.Call.{Call}
 use Rattle.runfile.specs.declared.Reading.the-variants.{Refused, Good}
 use Rattle.runfile.specs.declared.Shape.{Shape}
-use Rattle.runs.proofs.ClosingLaws.{schedule-steps}
-use Rattle.runs.proofs.EntriesLaws.{entries-most}
+use Rattle.runs.proofs.ClosingLaws.{schedule-steps, played-sixes}
+use Rattle.runs.proofs.EntriesLaws.{start-bounded, played-bounded, entries-most}
 use Rattle.bench.proofs.FinishLaws.{finished-gives}
 use Rattle.bench.proofs.LayoutLaws.{row-in}
 use Rattle.runs.proofs.Induction.{play-keeps, closed-keeps}
 use Rattle.bench.specs.declared.Bench.{Bench as HeldBench}
-use Rattle.bench.specs.inner.Layout.{benchIn, slotsOf, slotsIn, stateIn, sizesIn, Becomes, ToPlay, ToClose}
+use Rattle.bench.specs.inner.Layout.{benchIn, slotsOf, slotsIn, stateIn, sizesIn, Whole, Becomes, ToWalk, ToClose}
+use Rattle.bench.specs.inner.Walk.{walked}
+use Rattle.word.specs.inner.StepsLeft.{stepsLeft}
 use Rattle.runs.specs.inner.Counted.{Counted}
+use Rattle.runs.specs.inner.Left.{total}
+use Rattle.runfile.specs.Check.{sum}
 use Rattle.runs.specs.inner.Sound.{Sizes, Fit, Sound}
 use Rattle.runs.specs.States.{StateOf, at-closing}
 use Rattle.runs.proofs.Sound.{sound-fresh}
@@ -36,18 +40,13 @@ use Rattle.runs.proofs.States.{sound}
 use Rattle.runs.specs.Promise.{Gives, Ran}
 use Rattle.bench.specs.inner.Finish.{Finishes, Ends}
 use Rattle.runs.specs.Run.{Outcome, play, lowest, close, closed, closingSteps, tableSize, refusal, finished, outcome, runOf, closingStep, played}
-use Rattle.bench.proofs.RunLaws.{bare, later, act-later, becomes-next, held-counted, sound-held}
+use Rattle.bench.proofs.RunLaws.{becomes-next, held-counted, sound-held}
+use Rattle.bench.proofs.WalkLaws.{bare, later, later-none, later-later, act-later, walk-plays}
 use Rattle.runs.specs.State.{Bench, Process, Queue, State, fresh, nobody, processAt, scripted, startBench, start}
 use Rattle.runs.specs.Turn.{act, turn}
 use Rattle.runs.proofs.TurnLaws.{CountedAfter, counted-act, counted-turn}
 
 -- the closing does not look at the log either
-later-later : (s a x : State) → later (later s a) x ≡ later s (later a x)
-later-later s a x = λ i. record { bench = x .bench; slots = x .slots; log = append-assoc (s .log) (a .log) (x .log) i }
-
-later-none : (s : State) → s ≡ later s (bare s)
-later-none s = λ i. record { bench = s .bench; slots = s .slots; log = sym (append-nil (s .log)) i }
-
 close-later : (W C k : ℕ) (s : State) → close W C k s ≡ later s (close W C k (bare s))
 unfolding close
 close-later W C zero s = later-none s
@@ -104,6 +103,9 @@ pub refusal-gives : (o : Outcome) (n : ℕ) (buffer : List ℕ) (written : ℕ) 
 refusal-gives o n buffer written report table e h =
     subst (λ (x : Outcome). Gives x buffer written buffer report table) (sym e) (record { bytes = h .0; kept = refl; counts = h .1; queues = h .2 })
 
+room : (t k e : ℕ) {N M : ℕ} → t + k ≤ N → e ≡ 0 + k → N ≡ M → t + e ≤ M
+room t k e a b c = omega arith
+
 -- the row of zeros holds C zeros for each queue
 zeros : (C k n : ℕ) → k + C ≤ n → take C (drop k (replicate {A = ℕ} n 0)) ≡ replicate C 0
 zeros C k n h =
@@ -146,6 +148,9 @@ module _ (s : List ℕ) (bytes : Bytes s) (shape : Shape) (e : readingOf (fileOf
   calls-are =
       ap (λ (x : Shape). firstCalls s (x .processes) (x .calls)) is-shape
       ∙ ap (λ (n : ℕ). firstCalls s n (length (f .calls))) processes ∙ ap (firstCalls s (processesIn s)) calls
+
+  all-calls : sum (f .shares) ≡ shape .calls
+  all-calls = sym (in-ranges .count) ∙ sym (ap (λ (x : Shape). x .calls) is-shape)
 
   steps : shape .steps ≡ stepsIn s
   steps = ap (λ (x : Shape). x .steps) is-shape ∙ schedule-length s (good-passes s f is-good .0)
@@ -194,13 +199,15 @@ module _ (s : List ℕ) (bytes : Bytes s) (shape : Shape) (e : readingOf (fileOf
     below = subst (λ (l : List ℕ). (k : ℕ) → k < length l → getD l k 0 < shape .processes) (sym schedule-is)
         (λ k h. omega (arith, in-ranges .schedule k h, ap (λ (x : Shape). x .processes) is-shape))
 
-    module _ (b₀ : HeldBench) (z : (benchIn b₀ ≡ startBench (firstLengths s (shape .processes))) × (b₀ .entries ≡ 0)) where
+    module _ (b₀ : HeldBench) (z : (benchIn b₀ ≡ startBench (firstLengths s (shape .processes))) × (b₀ .entries ≡ 0) × Whole b₀) where
       d : benchIn b₀ ≡ startBench (firstLengths s (shape .processes))
       d = z .0
 
-      pub to-play : ToPlay shape schedule b₀ (replicate 512 0)
-      to-play = record {
+      pub to-walk : ToWalk shape schedule b₀ (replicate 512 0)
+      to-walk = record {
+        whole = z .2;
         counted = subst (λ (m : ℕ). Counted m (benchIn b₀)) (sym (z .1)) (subst (Counted 0) (sym d) (start-counted (firstLengths s (shape .processes))));
+        left = subst (λ (x : State). total (x .bench .processes) + b₀ .entries ≤ shape .calls) (sym (starts b₀ d)) (room _ 0 (b₀ .entries) (start-bounded f) (z .1) all-calls);
         few = omega (arith, ap (λ (x : Bench). x .steps) d, ap length schedule-is, in-ranges .steps);
         all-slots = length-replicate {A = ℕ} 512 0;
         fit = fits;
@@ -209,15 +216,16 @@ module _ (s : List ℕ) (bytes : Bytes s) (shape : Shape) (e : readingOf (fileOf
         below = below;
       }
 
-      plays : play W C (firstCalls s (shape .processes) (shape .calls)) schedule (stateIn C b₀ (replicate 512 0)) ≡ played f
+      plays : walked false W C (firstCalls s (shape .processes) (shape .calls)) schedule (stateIn C b₀ (replicate 512 0)) ≡ played f
       plays =
-          ap (λ (x : State). play W C (firstCalls s (shape .processes) (shape .calls)) schedule x) (starts b₀ d)
+          walk-plays W C (firstCalls s (shape .processes) (shape .calls)) schedule (stateIn C b₀ (replicate 512 0))
+          ∙ ap (λ (x : State). play W C (firstCalls s (shape .processes) (shape .calls)) schedule x) (starts b₀ d)
           ∙ ap (λ (l : List Call). play W C l schedule (start f)) calls-are
           ∙ ap (λ (l : List ℕ). play W C (f .calls) l (start f)) schedule-is
           ∙ ap (λ (x : Shape). play (x .width) (x .size) (f .calls) (f .schedule) (start f)) is-shape
 
       module _ (log₀ : List ℕ) (b₁ : HeldBench) (flat₁ log₁ : List ℕ)
-          (g : Becomes C (b₀ .entries) log₀ (play W C (firstCalls s (shape .processes) (shape .calls)) schedule (stateIn C b₀ (replicate 512 0))) b₁ flat₁ log₁) where
+          (g : Becomes C (b₀ .entries) log₀ (walked false W C (firstCalls s (shape .processes) (shape .calls)) schedule (stateIn C b₀ (replicate 512 0))) b₁ flat₁ log₁) where
         becomes-played : Becomes C 0 log₀ (played f) b₁ flat₁ log₁
         becomes-played = subst (λ (n : ℕ). Becomes C n log₀ (played f) b₁ flat₁ log₁) (z .1) (subst (λ (x : State). Becomes C (b₀ .entries) log₀ x b₁ flat₁ log₁) plays g)
 
@@ -226,10 +234,14 @@ module _ (s : List ℕ) (bytes : Bytes s) (shape : Shape) (e : readingOf (fileOf
         played-state = at-closing 0 (omega arith)
 
         pub to-close : length flat₁ ≡ 512 → ToClose shape b₁ flat₁
-        to-close whole = record {
+        to-close all = record {
+          whole = g .whole;
           counted = held-counted C 0 log₀ (played f) b₁ flat₁ log₁ becomes-played (played-kept f);
+          left = subst (λ (x : Bench). total (x .processes) + b₁ .entries ≤ shape .calls) (sym (becomes-played .bench))
+              (room _ _ (b₁ .entries) (played-bounded f) (becomes-played .count) all-calls);
+          six = subst (λ (x : Bench). (p : ℕ) → stepsLeft (processAt x p .stage) ≤ 6) (sym (becomes-played .bench)) (played-sixes f .six);
           few = omega (arith, ap (λ (x : Bench). x .steps) (becomes-played .bench), schedule-steps f, in-ranges .steps);
-          all-slots = whole;
+          all-slots = all;
           fit = fits;
           sound = sound-held (sizesIn shape) 0 log₀ (played f) b₁ flat₁ log₁ becomes-played
               (subst (λ (x : Sizes). Sound x (played f)) (sym sizes-are) (sound f in-ranges (played f) played-state));
@@ -250,7 +262,7 @@ module _ (s : List ℕ) (bytes : Bytes s) (shape : Shape) (e : readingOf (fileOf
           entries-few = omega (arith, entries-most f, in-ranges .count)
 
           pub ends : length flat₂ ≡ 512 → Ends shape b₂ flat₂
-          ends l = record { counted = closed-counted; processes = few-processes; size = small; all-slots = l }
+          ends l = record { whole = k .whole; counted = closed-counted; processes = few-processes; size = small; all-slots = l }
 
           ran : (buffer : List ℕ) → 5 + 12 * shape .calls ≤ length buffer → runOf s (length buffer) ≡ finished f (closed f)
           unfolding runOf outcome

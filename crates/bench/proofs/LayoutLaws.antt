@@ -1,44 +1,32 @@
--- Laws of the row of slots and of entries put into a log.
-use Prim.Native.Nat.{ℕ, zero, suc, _+_, _-_, _*_, _≤_, _<_}
+-- Laws of the row of slots, of entries put into a log, and of the program's arrays.
+use Prim.Native.Nat.{ℕ, suc, _+_, _-_, _*_, _≤_, _<_}
 use mathlib.Core.Path.{_≡_, refl, sym, ap, _∙_, subst}
-use mathlib.Core.Bool.{true, false}
-use mathlib.Core.List.{List, [], _∷_, _++_, map}
+use mathlib.Core.List.{List, [], _∷_, _++_}
 use native.Mathlib.Nat.{mul-suc, mul-le-mul-left}
 use native.Mathlib.Omega.{arith}
 use native.Mathlib.Decide.{decLt, ℕ-discrete}
-use lib.ListN.{length, getD, take, drop, set, length-set, length-drop, length-map, List·getD-append, List·getD-map}
+use lib.ListN.{length, getD, take, drop, set, length-set, length-drop, List·getD-append}
 use lib.Seq.{getD-take, getD-drop, getD-append-add, getD-set-same, getD-set-other, ext-getD, length-take-le}
 use borrow.Rule.Slice.PartMut.{putMid, same-len-mid}
 use Rattle.base.specs.Bytes.{putAt}
+use Rattle.base.specs.Lists.{listOf}
 use Rattle.log.specs.Encode.{entryBytes}
 use Rattle.base.proofs.Lists.{listOf-length, listOf-getD}
 use Rattle.log.specs.declared.Entry.{Entry}
-use Rattle.runfile.specs.declared.Call.{Call}
-use Rattle.word.specs.Stages.{isIdle}
-use Rattle.queue.specs.Step.{loaded, loadedSlot, stored, inSixteen, steppedOn}
-use Rattle.queue.specs.Packed.{unpackedStep, StepPacked}
-use Rattle.queue.proofs.StepLaws.{sixteen-in}
+use Rattle.queue.specs.Step.{stored}
+use Rattle.queue.specs.Packed.{unpacked, StepPacked}
 use Rattle.word.specs.declared.Stage.{Stage}
-use Rattle.word.specs.declared.Stage.the-variants.{Idle}
-use Rattle.runfile.specs.declared.Call.the-variants.{Push}
 use Rattle.queue.specs.declared.Stepped.{Stepped}
 use Rattle.queue.specs.declared.PackedStep.{PackedStep}
 use Rattle.queue.specs.declared.PackedWord.{PackedWord}
 use Rattle.queue.specs.declared.Store.{Store}
 use Rattle.queue.specs.declared.Store.the-variants as store
-use Rattle.bench.specs.inner.Layout.{queueIn, freshHeld, processIn, benchIn, slotsOf, slotsIn, stateIn, StepsIn, putEntries, Becomes, Moves, movedBench}
-use Rattle.range.specs.inner.Facts.{InRange}
+use Rattle.bench.specs.inner.Layout.{recordOf, freshHeld, idleHeld, noScript, queueIn, recordIn, benchIn, slotsOf, slotsIn, StepsIn, putEntries}
+use Rattle.runs.specs.State.{Process, Queue, fresh, nobody, queueAt, processAt}
 use Rattle.runs.specs.inner.Counted.{Counted}
-use Rattle.runs.specs.inner.Sound.{Sizes, Fit, processes, AllIn, Placed, Sound}
-use Rattle.runs.proofs.Sound.{turning-placed}
-use Rattle.runs.specs.Moment.{queueOf, ended, goneRound, Nothing, ends}
-use Rattle.runs.specs.State.{Process, Queue, queueAt, processAt}
-use Rattle.runs.specs.Turn.{queueAfter, processAfter, benchAfter, act, idleStep, ready, turning, turnAs, turn}
-use Rattle.runs.proofs.TurnLaws.{ready-b2, entries-few, gone-most}
-use Rattle.bench.specs.declared.turn.Moved.{Moved}
 use Rattle.bench.specs.declared.Bench.{Bench as HeldBench}
-use Rattle.bench.specs.declared.Process.{Process as HeldProcess}
-use Rattle.bench.specs.declared.Queue.{Queue as HeldQueue}
+use Rattle.bench.specs.declared.Script.{Script}
+use Rattle.bench.specs.declared.Standing.{Standing}
 
 -- a list with a part put in its place
 module _ (xs ys : List ℕ) (a k : ℕ) (h : a + k ≤ length xs) (e : length ys ≡ k) where
@@ -129,9 +117,6 @@ module _ (C q : ℕ) (flat row : List ℕ) (whole : length flat ≡ 512) (small 
 
 -- the program's step on its part of the row
 module _ (W C : ℕ) (w : PackedWord) (flat : List ℕ) (q : ℕ) (z : Stage) (r : PackedStep) where
-  pub on-same : (i : ℕ) (flat′ : List ℕ) → q ≡ i → StepsIn W C w flat q z r flat′ → StepsIn W C w flat i z r flat′
-  on-same i flat′ e h = subst (λ (j : ℕ). StepsIn W C w flat j z r flat′) e h
-
   stored-length : (xs : List ℕ) (o : Store) → length (stored xs o) ≡ length xs
   stored-length xs store.Nothing = refl
   stored-length xs (store.Slot at node) = length-set xs at node
@@ -155,106 +140,61 @@ put-append n (e ∷ es) ds log =
     let k : n + suc (length es) ≡ suc n + length es = omega arith in
     rw k (put-append (suc n) es ds (putAt (5 + 12 * n) (entryBytes e) log))
 
--- what an array of the program has past its end: all 0, and the first of each enum
-abbrev pub nobodyHeld : HeldProcess
-nobodyHeld = record { stage = Idle; call = Push 0; next = 0; stop = 0; start = 0; b2 = 0; «resets_at_t1» = 0 }
+-- queue q and process p of the program's arrays are those of the bench that they stand for
+pub queue-is : (b : HeldBench) (q : ℕ) → q < 8 → queueAt (benchIn b) q ≡ queueIn b q
+queue-is b q h = listOf-getD 8 (queueIn b) fresh q h
 
--- a record of the program's arrays, as what it stands for
-pub queue-is : (b : HeldBench) (q : ℕ) → queueAt (benchIn b) q ≡ queueIn (getD (b .queues) q freshHeld)
-queue-is b q = List·getD-map queueIn (b .queues) q freshHeld
-
-pub process-is : (b : HeldBench) (p : ℕ) → processAt (benchIn b) p ≡ processIn (getD (b .processes) p nobodyHeld)
-process-is b p = List·getD-map processIn (b .processes) p nobodyHeld
+pub process-is : (b : HeldBench) (p : ℕ) → p < 8 → processAt (benchIn b) p ≡ recordIn b p
+process-is b p h = listOf-getD 8 (recordIn b) nobody p h
 
 module _ (b : HeldBench) (m : ℕ) (h : Counted m (benchIn b)) where
-  pub held-queues : length (b .queues) ≡ 8
-  held-queues = sym (length-map (b .queues) queueIn) ∙ h .queues
+  pub held-resets : (q : ℕ) → q < 8 → getD (b .resets) q 0 ≤ b .steps
+  held-resets q l = omega (arith, h .resets q, ap (λ (x : Queue). x .resets) (queue-is b q l))
 
-  pub held-processes : length (b .processes) ≡ 8
-  held-processes = sym (length-map (b .processes) processIn) ∙ h .processes
+  pub held-b2 : (p : ℕ) → p < 8 → getD (b .b2s) p 0 ≤ b .steps
+  held-b2 p l = omega (arith, h .b2 p, ap (λ (x : Process). x .b2) (process-is b p l))
 
-  pub held-resets : (q : ℕ) → getD (b .queues) q freshHeld .resets ≤ b .steps
-  held-resets q = omega (arith, h .resets q, ap (λ (x : Queue). x .resets) (queue-is b q))
+-- an array with x at place i, and otherwise as it was
+pub record Put {A : Type 0} (d : A) (l l′ : List A) (i : ℕ) (x : A) : Type 0 where
+  pub here : getD l′ i d ≡ x
+  pub other : (j : ℕ) → (j ≡ i → ⊥) → getD l′ j d ≡ getD l j d
 
-  pub held-b2 : (p : ℕ) → getD (b .processes) p nobodyHeld .b2 ≤ b .steps
-  held-b2 p = omega (arith, h .b2 p, ap (λ (x : Process). x .b2) (process-is b p))
+module _ {A : Type 0} (d : A) (l : List A) (i : ℕ) (x : A) where
+  pub put-set : i < length l → Put d l (set l i x) i x
+  put-set h = record { here = getD-set-same l i x d h; other = λ j ne. getD-set-other l i j x d ne }
 
-map-set : {A B : Type 0} (f : A → B) (l : List A) (i : ℕ) (x : A) → map f (set l i x) ≡ set (map f l) i (f x)
-map-set f [] i x = refl
-map-set f (y ∷ l) zero x = refl
-map-set f (y ∷ l) (suc i) x = ap (λ (k : List _). f y ∷ k) (map-set f l i x)
+  pub put-none : getD l i d ≡ x → Put d l l i x
+  put-none e = record { here = e; other = λ j ne. refl }
 
--- what the program's two ways through a schedule step come to: w is the record of process p, and r the one with which it makes its turn
-module _ (calls : List Call) (p : ℕ) (b : HeldBench) (w r : HeldProcess) (e : w ≡ getD (b .processes) p nobodyHeld)
-    (d : processIn r ≡ ready calls (b .steps) (processIn w)) where
-  now : processIn r ≡ turning calls p (stateIn 0 b [])
-  now = d ∙ ap (λ (x : HeldProcess). ready calls (b .steps) (processIn x)) e ∙ ap (ready calls (b .steps)) (sym (process-is b p))
+listOf-put : {A : Type 0} (f g : ℕ → A) (d : A) (n i : ℕ) (x : A) → i < n → g i ≡ x → ((j : ℕ) → (j ≡ i → ⊥) → g j ≡ f j) → listOf n g ≡ set (listOf n f) i x
+listOf-put {A} f g d n i x lt e o =
+    ext-getD d (listOf n g) (set (listOf n f) i x) (listOf-length n g ∙ sym (length-set (listOf n f) i x ∙ listOf-length n f))
+    (λ j m. split j (omega (arith, listOf-length n g)) (ℕ-discrete j i))
+  where
+    split : (j : ℕ) → j < n → Dec (j ≡ i) → getD (listOf n g) j d ≡ getD (set (listOf n f) i x) j d
+    split j l (yes k) =
+        ap (λ (h : ℕ). getD (listOf n g) h d) k ∙ listOf-getD n g d i lt ∙ e
+        ∙ sym (ap (λ (h : ℕ). getD (set (listOf n f) i x) h d) k ∙ getD-set-same (listOf n f) i x d (omega (arith, listOf-length n f)))
+    split j l (no k) = listOf-getD n g d j l ∙ o j k ∙ sym (listOf-getD n f d j l) ∙ sym (getD-set-other (listOf n f) i j x d k)
 
-  pub b2-counted : (m : ℕ) → Counted m (benchIn b) → r .b2 ≤ b .steps
-  b2-counted m h = omega (arith, h .b2 p, ready-b2 calls (b .steps) (processAt (benchIn b) p), ap (λ (x : Process). x .b2) now)
+-- what a step of process p on queue q changes in the program's arrays
+pub record Changes (b b′ : HeldBench) (p q : ℕ) (w : PackedWord) (n : ℕ) (z : Standing) (c : Script) (b2 seen : ℕ) : Type 0 where
+  pub words : Put freshHeld (b .words) (b′ .words) q w
+  pub resets : Put 0 (b .resets) (b′ .resets) q n
+  pub standings : Put idleHeld (b .standings) (b′ .standings) p z
+  pub scripts : Put noScript (b .scripts) (b′ .scripts) p c
+  pub b2s : Put 0 (b .b2s) (b′ .b2s) p b2
+  pub resets-at-t1 : Put 0 (b .«resets_at_t1») (b′ .«resets_at_t1») p seen
 
-  -- it is in range, and its call is on one of the queues
-  pub placed-now : (f : Sizes) → Fit f → AllIn (processes f) calls → (C : ℕ) (flat : List ℕ) → Sound f (stateIn C b flat) → p < processes f → Placed f p (processIn r)
-  placed-now f h all C flat v lt = subst (Placed f p) (sym now) (turning-placed f h calls all (stateIn C b flat) v p lt)
+-- and in the bench that they stand for
+module _ (b b′ : HeldBench) (p q : ℕ) (w : PackedWord) (n : ℕ) (z : Standing) (c : Script) (b2 seen : ℕ) (h : Changes b b′ p q w n z c b2 seen) where
+  pub queues-changed : q < 8 → benchIn b′ .queues ≡ set (benchIn b .queues) q (record { word = unpacked w; resets = n })
+  queues-changed lt =
+      listOf-put (queueIn b) (queueIn b′) fresh 8 q (record { word = unpacked w; resets = n }) lt (λ i. record { word = unpacked (h .words .here i); resets = h .resets .here i })
+      (λ j ne i. record { word = unpacked (h .words .other j ne i); resets = h .resets .other j ne i })
 
-  module _ (W C : ℕ) (flat log : List ℕ) (b′ : HeldBench) where
-    pub turn-idles : isIdle (r .stage) ≡ true → benchIn b′ ≡ idleStep (benchIn b) → b′ .entries ≡ b .entries
-        → Becomes C (b .entries) log (turn W C calls p (stateIn C b flat)) b′ flat log
-    unfolding turn turnAs
-    turn-idles i h k = record { bench = rw (← now, i) h; count = rw (← now, i) (omega (arith, k)); slots = rw (← now, i) refl; bytes = rw (← now, i) refl }
-
-    pub turn-acts : (flat′ log′ : List ℕ) → isIdle (r .stage) ≡ false → Becomes C (b .entries) log (act W C p (processIn r) (stateIn C b flat)) b′ flat′ log′
-        → Becomes C (b .entries) log (turn W C calls p (stateIn C b flat)) b′ flat′ log′
-    unfolding turn turnAs
-    turn-acts flat′ log′ i h =
-        record { bench = rw (← now, i) (h .bench); count = rw (← now, i) (h .count); slots = rw (← now, i) (h .slots); bytes = rw (← now, i) (h .bytes) }
-
--- the counts grow by at most 1, and the bench with what was changed is the bench after the step
-module _ (W C p n entries : ℕ) (r : Process) (before : HeldQueue) (owner : Process) (flat log : List ℕ) (m : Moved) (flat′ log′ : List ℕ)
-    (v : Moves W C p n entries r before owner flat log m flat′ log′) where
-  pub moved-more : m .more ≤ 1
-  moved-more = omega (arith, v .more, entries-few (v .over))
-
-  pub moved-gone : m .gone ≤ 1
-  moved-gone = omega (arith, v .gone, gone-most r (before .resets) (v .step .next))
-
--- what the program's parts of a step of a process come to: before and owner are the records of its queue and of the queue's owner
-module _ (W C p : ℕ) (r : HeldProcess) (b : HeldBench) (flat log : List ℕ) (q : ℕ) (before : HeldQueue) (owner : HeldProcess) (m : Moved) (flat′ log′ : List ℕ)
-    (v : Moves W C p (b .steps) (b .entries) (processIn r) before (processIn owner) flat log m flat′ log′) (e : q ≡ queueOf p (r .call))
-    (f : before ≡ getD (b .queues) q freshHeld) (g : owner ≡ getD (b .processes) q nobodyHeld) (i : InRange W C C (queueAt (benchIn b) q .word) (r .stage)) where
-  before-is : queueIn before ≡ queueAt (benchIn b) q
-  before-is = ap queueIn f ∙ sym (queue-is b q)
-
-  owner-is : processIn owner ≡ processAt (benchIn b) q
-  owner-is = ap processIn g ∙ sym (process-is b q)
-
-  here : StepsIn W C (before .word) flat q (r .stage) (v .step) flat′
-  here = on-same W C (before .word) flat (queueOf p (r .call)) (r .stage) (v .step) q flat′ (sym e) (v .slots)
-
-  stepped : unpackedStep (v .step) ≡ steppedOn W C (queueAt (benchIn b) q .word) (getD (slotsIn C flat) q []) (r .stage)
-  stepped =
-      here .stepped ∙ ap (λ (x : Queue). inSixteen (steppedOn W C (x .word) (getD (slotsIn C flat) q []) (r .stage))) before-is
-      ∙ sixteen-in W C C (queueAt (benchIn b) q .word) (loaded (getD (slotsIn C flat) q []) (loadedSlot (r .stage))) (r .stage) i
-
-  over-is : v .over ≡ ended p (b .steps) (processIn r) (processAt (benchIn b) q) (queueAt (benchIn b) q .word .top) (v .step .next)
-  over-is =
-      v .ends ∙ ap (λ (x : Queue). ended p (b .steps) (processIn r) (processIn owner) (x .word .top) (v .step .next)) before-is
-      ∙ ap (λ (x : Process). ended p (b .steps) (processIn r) x (queueAt (benchIn b) q .word .top) (v .step .next)) owner-is
-
-  after-is : benchIn (movedBench b p q m) ≡ benchAfter (benchIn b) p q (processIn r) (unpackedStep (v .step))
-  after-is = λ i. record {
-    queues = (map-set queueIn (b .queues) q (m .queue) ∙ ap (set (map queueIn (b .queues)) q) (v .queue ∙ ap (λ (x : Queue). queueAfter x (unpackedStep (v .step))) before-is)) i;
-    processes = (map-set processIn (b .processes) p (m .process)
-        ∙ ap (set (map processIn (b .processes)) p) (v .process ∙ ap (λ (x : Queue). processAfter (b .steps) (x .resets) (processIn r) (v .step .next)) before-is)) i;
-    steps = b .steps + 1;
-    gone = b .gone + (v .gone ∙ ap (λ (x : Queue). goneRound (processIn r) (x .resets) (v .step .next)) before-is) i;
-  }
-
-  pub moves-become : (b′ : HeldBench) → b′ ≡ movedBench b p q m → Becomes C (b .entries) log (act W C p (processIn r) (stateIn C b flat)) b′ flat′ log′
-  unfolding act
-  moves-become b′ d = record {
-    bench = rw (← e, ← stepped) (ap benchIn d ∙ after-is);
-    count = rw (← e, ← stepped, ← over-is) (ap (λ (x : HeldBench). x .entries) d ∙ ap (λ (k : ℕ). b .entries + k) (v .more));
-    slots = rw (← e, ← stepped) (here .slots);
-    bytes = rw (← e, ← stepped, ← over-is) (v .bytes);
-  }
+  pub processes-changed : p < 8 → benchIn b′ .processes ≡ set (benchIn b .processes) p (recordOf z c b2 seen)
+  processes-changed lt =
+      listOf-put (recordIn b) (recordIn b′) nobody 8 p (recordOf z c b2 seen) lt
+      (λ i. recordOf (h .standings .here i) (h .scripts .here i) (h .b2s .here i) (h .resets-at-t1 .here i))
+      (λ j ne i. recordOf (h .standings .other j ne i) (h .scripts .other j ne i) (h .b2s .other j ne i) (h .resets-at-t1 .other j ne i))

@@ -12,13 +12,12 @@ use Rattle.base.specs.Bytes.{putAt}
 use Rattle.base.specs.Lists.{listOf}
 use Rattle.base.proofs.Lists.{listOf-length, listOf-getD}
 use Rattle.word.specs.declared.Word.{Word}
-use Rattle.queue.specs.Packed.{unpacked}
 use Rattle.runfile.specs.Check.{sum}
 use Rattle.runfile.specs.File.{firstLengths, callsBefore}
-use Rattle.runs.specs.State.{Queue, Bench, queueAt}
-use Rattle.runs.specs.Run.{tableRow, tableAt}
+use Rattle.runs.specs.State.{Queue}
+use Rattle.runs.specs.Run.{tableRow, inTable, tableAt}
 use Rattle.bench.specs.declared.Bench.{Bench as HeldBench}
-use Rattle.bench.specs.inner.Layout.{freshHeld, benchIn, slotsOf, slotsIn}
+use Rattle.bench.specs.inner.Layout.{benchIn, slotsOf, slotsIn, wordsTable}
 use Rattle.bench.proofs.LayoutLaws.{slots-get, queue-is}
 
 -- the calls before those of process p
@@ -79,42 +78,46 @@ module _ (table : List ℕ) (from : ℕ) (w : Word) where
       put-is (from + 3) slots (threeSet table from w) l ∙ sym (sets-eq slots (threeSet table from w) (from + 3) l)
       ∙ rw (e, f, g) (sets-eq (tableRow w slots) table from h) ∙ sym (put-is from (tableRow w slots) table h)
 
+-- number k of the table whose queue q has the word w q
+abbrev tableOf : ℕ → (ℕ → Word) → List (List ℕ) → ℕ → ℕ
+tableOf P w slots k = inTable P (w (k / 67)) slots (k / 67) (k % 67)
+
 -- a table in which the rows of the first n queues stand, and 0 elsewhere
-pub record Filled (n : ℕ) (b : Bench) (slots : List (List ℕ)) (table : List ℕ) : Type 0 where
+pub record Filled (n : ℕ) (w : ℕ → Word) (slots : List (List ℕ)) (table : List ℕ) : Type 0 where
   pub whole : length table ≡ 536
-  pub places : (k : ℕ) → k < 536 → getD table k 0 ≡ tableAt n b slots k
+  pub places : (k : ℕ) → k < 536 → getD table k 0 ≡ tableOf n w slots k
 
 by-places : (n : ℕ) (f : ℕ → ℕ) (l : List ℕ) → length l ≡ n → ((k : ℕ) → k < n → getD l k 0 ≡ f k) → l ≡ listOf n f
 by-places n f l e g = ext-getD 0 l (listOf n f) (e ∙ sym (listOf-length n f)) (λ k h. g k (omega arith) ∙ sym (listOf-getD n f 0 k (omega arith)))
 
-module _ (b : Bench) (slots : List (List ℕ)) where
-  within : (n k : ℕ) → k / 67 < n → tableAt n b slots k ≡ getD (tableRow (queueAt b (k / 67) .word) (getD slots (k / 67) [])) (k % 67) 0
+module _ (w : ℕ → Word) (slots : List (List ℕ)) where
+  within : (n k : ℕ) → k / 67 < n → tableOf n w slots k ≡ getD (tableRow (w (k / 67)) (getD slots (k / 67) [])) (k % 67) 0
   within n k h = rw (lt-ltb (k / 67) n h)
 
-  beyond : (n k : ℕ) → n ≤ k / 67 → tableAt n b slots k ≡ 0
+  beyond : (n k : ℕ) → n ≤ k / 67 → tableOf n w slots k ≡ 0
   beyond n k h = rw (le-ltb (k / 67) n h)
 
-  pub none-filled : Filled 0 b slots (replicate 536 0)
+  pub none-filled : Filled 0 w slots (replicate 536 0)
   none-filled = record { whole = refl; places = λ k h. getD-replicate 536 k 0 0 h ∙ sym (beyond 0 k (omega arith)) }
 
-  pub all-filled : (n q : ℕ) (table : List ℕ) → q ≡ n → Filled q b slots table → table ≡ listOf 536 (tableAt n b slots)
-  all-filled n q table e f = by-places 536 (tableAt n b slots) table (f .whole) (λ k h. f .places k h ∙ ap (λ (i : ℕ). tableAt i b slots k) e)
+  pub all-filled : (n q : ℕ) (table : List ℕ) → q ≡ n → Filled q w slots table → table ≡ listOf 536 (tableOf n w slots)
+  all-filled n q table e f = by-places 536 (tableOf n w slots) table (f .whole) (λ k h. f .places k h ∙ ap (λ (i : ℕ). tableOf i w slots k) e)
 
-  module _ (q : ℕ) (row table : List ℕ) (e : row ≡ tableRow (queueAt b q .word) (getD slots q [])) (f : Filled q b slots table)
+  module _ (q : ℕ) (row table : List ℕ) (e : row ≡ tableRow (w q) (getD slots q [])) (f : Filled q w slots table)
       (room : 67 * q + length row ≤ 536) (small : length row ≤ 67) where
     fits : 67 * q + length row ≤ length table
     fits = omega (arith, f .whole)
 
-    inside : (k : ℕ) → k / 67 ≡ q → tableAt (q + 1) b slots k ≡ getD row (k % 67) 0
+    inside : (k : ℕ) → k / 67 ≡ q → tableOf (q + 1) w slots k ≡ getD row (k % 67) 0
     inside k d =
-        within (q + 1) k (omega arith) ∙ ap (λ (i : ℕ). getD (tableRow (queueAt b i .word) (getD slots i [])) (k % 67) 0) d
+        within (q + 1) k (omega arith) ∙ ap (λ (i : ℕ). getD (tableRow (w i) (getD slots i [])) (k % 67) 0) d
         ∙ ap (λ (l : List ℕ). getD l (k % 67) 0) (sym e)
 
-    above : (k : ℕ) → 67 * q + length row ≤ k → Dec (k / 67 ≡ q) → tableAt (q + 1) b slots k ≡ 0
+    above : (k : ℕ) → 67 * q + length row ≤ k → Dec (k / 67 ≡ q) → tableOf (q + 1) w slots k ≡ 0
     above k l (yes d) = inside k d ∙ List·getD-eq-default row 0 {n = k % 67} (omega arith)
     above k l (no d) = beyond (q + 1) k (omega arith)
 
-    place : (k : ℕ) → k < 536 → Dec (k < 67 * q) → Dec (k < 67 * q + length row) → getD (putAt (67 * q) row table) k 0 ≡ tableAt (q + 1) b slots k
+    place : (k : ℕ) → k < 536 → Dec (k < 67 * q) → Dec (k < 67 * q + length row) → getD (putAt (67 * q) row table) k 0 ≡ tableOf (q + 1) w slots k
     place k m (yes p) r = put-before (67 * q) row table fits k p ∙ f .places k m ∙ within q k (omega arith) ∙ sym (within (q + 1) k (omega arith))
     place k m (no p) (yes r) =
         let d : k ≡ 67 * q + k % 67 = omega arith in
@@ -124,7 +127,7 @@ module _ (b : Bench) (slots : List (List ℕ)) where
         ap (λ (i : ℕ). getD (putAt (67 * q) row table) i 0) d ∙ put-past (67 * q) row table fits (k - (67 * q + length row))
         ∙ ap (λ (i : ℕ). getD table i 0) (sym d) ∙ f .places k m ∙ beyond q k (omega arith) ∙ sym (above k (omega arith) (ℕ-discrete (k / 67) q))
 
-    pub row-filled : Filled (q + 1) b slots (putAt (67 * q) row table)
+    pub row-filled : Filled (q + 1) w slots (putAt (67 * q) row table)
     row-filled = record {
       whole = put-length (67 * q) row table fits ∙ f .whole;
       places = λ k h. place k h (decLt k (67 * q)) (decLt k (67 * q + length row));
@@ -141,6 +144,13 @@ module _ (C : ℕ) (flat : List ℕ) (q : ℕ) where
   pub part-small : C ≤ 64 → length (take (C * q + C - C * q) (drop (C * q) flat)) ≤ 64
   part-small h = omega (arith, ap length part-is, length-take C (drop (C * q) flat))
 
--- the word of a queue in the program's array is that of the queue that it stands for
-pub held-word : (b : HeldBench) (q : ℕ) → unpacked (getD (b .queues) q freshHeld .word) ≡ queueAt (benchIn b) q .word
-held-word b q = sym (ap (λ (m : Queue). m .word) (queue-is b q))
+-- the table from the words of the program's queues is that of the queues that they stand for
+same-values : (n : ℕ) (f g : ℕ → ℕ) → ((k : ℕ) → k < n → f k ≡ g k) → listOf n f ≡ listOf n g
+same-values n f g h =
+    ext-getD 0 (listOf n f) (listOf n g) (listOf-length n f ∙ sym (listOf-length n g))
+    (λ k l. let m : k < n = omega (arith, listOf-length n f) in listOf-getD n f 0 k m ∙ h k m ∙ sym (listOf-getD n g 0 k m))
+
+pub words-table : (P : ℕ) (b : HeldBench) (slots : List (List ℕ)) → listOf 536 (wordsTable P (b .words) slots) ≡ listOf 536 (tableAt P (benchIn b) slots)
+words-table P b slots =
+    same-values 536 (wordsTable P (b .words) slots) (tableAt P (benchIn b) slots)
+    (λ k h. ap (λ (m : Queue). inTable P (m .word) slots (k / 67) (k % 67)) (sym (queue-is b (k / 67) (omega arith))))

@@ -9,7 +9,7 @@ use Rattle.bench.specs.declared.Bench.{Bench as HeldBench}
 use Rattle.bench.specs.inner.Layout.{freshHeld, Becomes}
 
 pub record Holds (C : ℕ) (s : State) (b : HeldBench) (flat : List ℕ) : Type 0 where
-  pub words : (q : ℕ) → getD (b .queues) q freshHeld .word ≡ packedWord (queueAt (s .bench) q .word)
+  pub words : (q : ℕ) → getD (b .words) q freshHeld ≡ packedWord (queueAt (s .bench) q .word)
   pub slots : (q i : ℕ) → q < queueCount → i < C → getD flat (C * q + i) 0 ≡ getD (getD (s .slots) q []) i 0
 
 -- of every state that the program's loops promise to have come to, the schedule's and the closing's

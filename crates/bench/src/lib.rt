@@ -21,8 +21,8 @@ use runfile::Reading;
 use runfile::Shape;
 use word::Stage;
 
-// The steps of the closing at most: eight calls are half-done, and each has at most six steps left.
-const CLOSING_STEPS: u16 = 48;
+// The rounds of the closing at most: eight calls are half-done.
+const CLOSING_ROUNDS: u8 = 8;
 
 // C is at most this.
 const MOST_SLOTS: usize = 64;
@@ -34,12 +34,6 @@ const ALL_SLOTS: usize = 8 * MOST_SLOTS;
 const TABLE_ROW: usize = 3 + MOST_SLOTS;
 
 pub const TABLE_SIZE: usize = 8 * TABLE_ROW;
-
-// A queue of the bench: its control word, with top and tag in one word, and how often it was reset.
-pub struct Queue {
-    pub word: PackedWord,
-    pub resets: u16,
-}
 
 // A process: where it stands in its call, the call, which call of the file is its next and where its script stops; and of the
 // call its start, its step B2, and the resets that its queue had at T1.
@@ -53,10 +47,27 @@ pub struct Process {
     pub resets_at_t1: u16,
 }
 
-// The state of a run, but for the slots, which lie in an array of their own, and the log, which lies in the buffer.
+// Of a process what each of its steps changes, and what changes with its calls.
+pub struct Standing {
+    pub stage: Stage,
+}
+
+pub struct Script {
+    pub call: Call,
+    pub next: u16,
+    pub stop: u16,
+    pub start: u16,
+}
+
+// The state of a run, but for the slots, which lie in an array of their own, and the log, which lies in the buffer. The records of queues and of
+// processes lie in parts, so that a step writes no more than it changes.
 pub struct Bench {
-    pub queues: [Queue; 8],
-    pub processes: [Process; 8],
+    pub words: [PackedWord; 8],
+    pub resets: [u16; 8],
+    pub standings: [Standing; 8],
+    pub scripts: [Script; 8],
+    pub b2s: [u16; 8],
+    pub resets_at_t1: [u16; 8],
     pub entries: u16,
     pub steps: u16,
     pub gone: u16,
@@ -91,7 +102,8 @@ fn finish(
 {
     log::put_head(buffer, shape.processes, shape.size, state.entries);
     *report = [0, state.entries, state.steps, state.gone];
-    table::fill(table, shape.processes, shape.size, state, slots);
+    let words = state.words;
+    table::fill(table, shape.processes, shape.size, words, slots);
     log::HEAD_LENGTH + log::ENTRY_LENGTH * (state.entries as usize)
 }
 
@@ -114,7 +126,15 @@ fn run_good(
     let started = start::start(file, shape.processes);
     let from = shape.schedule_place();
     let to = from + shape.steps as usize;
-    let played = loops::play(file, shape, &file[from..to], started, &mut slots, buffer);
+    let played = loops::walk(
+        file,
+        shape,
+        &file[from..to],
+        started,
+        false,
+        &mut slots,
+        buffer,
+    );
     let closed = loops::close(file, shape, played, &mut slots, buffer);
     finish(shape, closed, &slots, buffer, report, table)
 }

@@ -4,42 +4,15 @@ ghost use Prim.Native.Nat.{_<_};
 ghost use lib.ListN.{take};
 ghost use Rattle.runfile.specs.Check.{sum};
 ghost use Rattle.runfile.specs.File.{firstLengths};
-ghost use Rattle.bench.specs.inner.Layout.{queueIn, processIn, benchIn};
-ghost use Rattle.runs.specs.State.{waiting as waitingOf, fresh as freshOf, scripted as scriptedOf, startBench};
+ghost use Rattle.bench.specs.inner.Layout.{recordOf, idleHeld, benchIn, Whole};
+ghost use Rattle.runs.specs.State.{scripted as scriptedOf, startBench};
 use crate::Bench;
-use crate::Process;
-use crate::Queue;
+use crate::Script;
+use crate::Standing;
 use queue::PackedAge;
 use queue::PackedWord;
 use runfile::Call;
 use word::Stage;
-
-pub(crate) fn fresh() -> Queue
-    ensures { λ r. ⌜ queueIn r ≡ freshOf ⌝ }
-{
-    Queue {
-        word: PackedWord {
-            bottom: 0,
-            age: PackedAge { word: 0 },
-        },
-        resets: 0,
-    }
-}
-
-// A process before its first call, whose calls are those of the file from next to stop.
-pub(crate) fn waiting(next: u16, stop: u16) -> Process
-    ensures { λ r. ⌜ processIn r ≡ waitingOf next stop ⌝ }
-{
-    Process {
-        stage: Stage::Idle,
-        call: Call::Push(0),
-        next,
-        stop,
-        start: 0,
-        b2: 0,
-        resets_at_t1: 0,
-    }
-}
 
 // How many calls stand before those of process p; from P on, all.
 fn calls_before(file: &[u8], processes: u8, p: u8) -> u16
@@ -52,19 +25,28 @@ fn calls_before(file: &[u8], processes: u8, p: u8) -> u16
     }
 }
 
-fn scripted(file: &[u8], processes: u8, p: u8) -> Process
+// The calls of process p, before the first of them.
+fn scripted(file: &[u8], processes: u8, p: u8) -> Script
     requires { ⌜ p < 8 ⌝ }
-    ensures { λ r. ⌜ processIn r ≡ scriptedOf (firstLengths (now (file .entry)) processes) p ⌝ }
+    ensures { λ r. ⌜ recordOf idleHeld r 0 0 ≡ scriptedOf (firstLengths (now (file .entry)) processes) p ⌝ }
 {
     let next = calls_before(file, processes, p);
     let stop = calls_before(file, processes, p + 1);
-    waiting(next, stop)
+    Script {
+        call: Call::Push(0),
+        next,
+        stop,
+        start: 0,
+    }
 }
 
 pub(crate) fn start(file: &[u8], processes: u8) -> Bench
-    ensures { λ r. ⌜ (benchIn r ≡ startBench (firstLengths (now (file .entry)) processes)) × (r .entries ≡ 0) ⌝ }
+    ensures { λ r. ⌜ (benchIn r ≡ startBench (firstLengths (now (file .entry)) processes)) × (r .entries ≡ 0) × Whole r ⌝ }
 {
-    let queue = fresh();
+    let age = PackedAge { word: 0 };
+    let word = PackedWord { bottom: 0, age };
+    let stage = Stage::Idle;
+    let idle = Standing { stage };
     let a = scripted(file, processes, 0);
     let b = scripted(file, processes, 1);
     let c = scripted(file, processes, 2);
@@ -74,8 +56,12 @@ pub(crate) fn start(file: &[u8], processes: u8) -> Bench
     let g = scripted(file, processes, 6);
     let h = scripted(file, processes, 7);
     Bench {
-        queues: [queue; 8],
-        processes: [a, b, c, d, e, f, g, h],
+        words: [word; 8],
+        resets: [0; 8],
+        standings: [idle; 8],
+        scripts: [a, b, c, d, e, f, g, h],
+        b2s: [0; 8],
+        resets_at_t1: [0; 8],
         entries: 0,
         steps: 0,
         gone: 0,

@@ -4,11 +4,11 @@ ghost use Prim.Native.Nat.{_+_, _≤_};
 ghost use lib.ListN.{length};
 ghost use Rattle.base.specs.Bytes.{putAt};
 ghost use Rattle.base.specs.Lists.{listOf};
-ghost use Rattle.bench.specs.inner.Layout.{benchIn, allSlots, slotsIn};
-ghost use Rattle.runs.specs.Run.{tableRow, tableAt, tableSize};
-use crate::Bench;
+ghost use Rattle.bench.specs.inner.Layout.{allSlots, slotsIn, wordsTable};
+ghost use Rattle.runs.specs.Run.{tableRow, tableSize};
 use crate::TABLE_ROW;
 use crate::TABLE_SIZE;
+use queue::PackedWord;
 use word::Word;
 
 // Puts a queue's row into the table: bottom, top, tag and its slots.
@@ -32,18 +32,17 @@ pub(crate) fn fill(
     table: &mut [u16; TABLE_SIZE],
     processes: u8,
     size: u8,
-    state: Bench,
+    words: [PackedWord; 8],
     slots: &[u16],
 )
     requires { ⌜ (length (now slots) ≡ allSlots) × (size ≤ 64) × (processes ≤ 8) ⌝ }
-    ensures { λ _. ⌜ now (table .exit) ≡ listOf tableSize (tableAt processes (benchIn state) (slotsIn size (now (slots .entry)))) ⌝ }
+    ensures { λ _. ⌜ now (table .exit) ≡ listOf tableSize (wordsTable processes words (slotsIn size (now (slots .entry)))) ⌝ }
 {
     *table = [0; TABLE_SIZE];
     let stride = size as usize;
     let mut q: usize = 0;
     while q < processes as usize {
-        let queue = state.queues[q];
-        let word = queue.word;
+        let word = words[q];
         let from = stride * q;
         let to = from + stride;
         put_row(table, TABLE_ROW * q, word.unpacked(), &slots[from..to]);

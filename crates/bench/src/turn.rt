@@ -3,15 +3,14 @@ ghost use mathlib.Core.Path.{_≡_};
 ghost use mathlib.Core.Bool.{cond};
 ghost use Prim.Native.Nat.{_≤_, _<_};
 ghost use lib.ListN.{length, getD};
-ghost use Rattle.runs.specs.Moment.{queueOf};
 ghost use Rattle.queue.specs.Step.{stageAfter};
-ghost use Rattle.queue.specs.Packed.{unpackedStep};
-ghost use Rattle.bench.specs.inner.Layout.{allSlots, queueIn, processIn, endedIn, putEntries, StepsIn, Moves};
+ghost use Rattle.bench.specs.inner.Layout.{allSlots, processIn, recordOf, scriptOf, endedIn, putEntries, StepsIn, Tells};
 ghost use Rattle.runfile.specs.File.{firstCalls};
-ghost use Rattle.runs.specs.Turn.{firstStage, begun as begunOf, processAfter, queueAfter, entriesIn, ready as readyOf};
+ghost use Rattle.runs.specs.Turn.{firstStage, begun as begunOf, entriesIn, ready as readyOf};
 use crate::Ended;
 use crate::Process;
-use crate::Queue;
+use crate::Script;
+use crate::Standing;
 use crate::moment;
 use queue::Next;
 use queue::PackedStep;
@@ -19,6 +18,35 @@ use queue::PackedWord;
 use runfile::Call;
 use runfile::Shape;
 use word::Stage;
+
+// The record of a process from its parts, and the part that changes with its calls.
+pub(crate) fn record(standing: Standing, script: Script, b2: u16, resets_at_t1: u16) -> Process
+    ensures { λ r. ⌜ processIn r ≡ recordOf standing script b2 «resets_at_t1» ⌝ }
+{
+    let stage = standing.stage;
+    let call = script.call;
+    Process {
+        stage,
+        call,
+        next: script.next,
+        stop: script.stop,
+        start: script.start,
+        b2,
+        resets_at_t1,
+    }
+}
+
+pub(crate) fn script_of(of: Process) -> Script
+    ensures { λ r. ⌜ r ≡ scriptOf (processIn of) ⌝ }
+{
+    let call = of.call;
+    Script {
+        call,
+        next: of.next,
+        stop: of.stop,
+        start: of.start,
+    }
+}
 
 fn first_stage(call: Call) -> Stage
     ensures { λ r. ⌜ r ≡ firstStage call ⌝ }
@@ -44,7 +72,7 @@ fn begun(n: u16, call: Call, of: Process) -> Process
     }
 }
 
-fn stage_after(next: Next) -> Stage
+pub(crate) fn stage_after(next: Next) -> Stage
     ensures { λ r. ⌜ r ≡ stageAfter next ⌝ }
 {
     match next {
@@ -57,39 +85,14 @@ fn stage_after(next: Next) -> Stage
     }
 }
 
-fn if_so(test: bool, yes: u16, no: u16) -> u16
+pub(crate) fn if_so(test: bool, yes: u16, no: u16) -> u16
     ensures { λ r. ⌜ r ≡ cond test yes no ⌝ }
 {
     if test { yes } else { no }
 }
 
-// The record after step n of its process; resets are those of its queue before the step.
-fn process_after(n: u16, resets: u16, of: Process, next: Next) -> Process
-    ensures { λ r. ⌜ processIn r ≡ processAfter n resets (processIn of) next ⌝ }
-{
-    let stage = of.stage;
-    Process {
-        stage: stage_after(next),
-        b2: if_so(stage.at_b2(), n, of.b2),
-        resets_at_t1: if_so(stage.at_t1(), resets, of.resets_at_t1),
-        ..of
-    }
-}
-
-fn queue_after(before: Queue, stepped: PackedStep) -> Queue
-    requires { ⌜ before .resets ≤ 8191 ⌝ }
-    ensures { λ r. ⌜ queueIn r ≡ queueAfter (queueIn before) (unpackedStep stepped) ⌝ }
-{
-    let word = stepped.word;
-    let again = before.resets + 1;
-    Queue {
-        word,
-        resets: if_so(stepped.reset, again, before.resets),
-    }
-}
-
 // The step of a queue on its part of the row of slots.
-fn step_slots(
+pub(crate) fn step_slots(
     width: u8,
     size: u8,
     word: PackedWord,
@@ -126,45 +129,38 @@ fn keep(log: &mut [u8], n: u16, over: Ended)
     }
 }
 
-// What a step changes: the records of its queue and of its process, and by how much the counts grow.
-pub(crate) struct Moved {
-    pub queue: Queue,
-    pub process: Process,
+// What the end of a call adds to the counts, and the resets of its queue after it.
+pub(crate) struct Told {
     pub more: u16,
     pub gone: u16,
+    pub resets: u16,
 }
 
-// Step n of process p, after so many entries: of, before and owner are the records of the process, of its call's queue and of the queue's owner.
-pub(crate) fn moves(
-    shape: Shape,
-    slots: &mut [u16],
+// Logs what step n of process p ended, after so many entries: of and owner are the records of the process and of its queue's owner, word and resets
+// the queue's, all before the step.
+pub(crate) fn tell(
     log: &mut [u8],
     p: u8,
     n: u16,
     entries: u16,
     of: Process,
-    before: Queue,
     owner: Process,
-) -> Moved
-    requires { ⌜ (n ≤ 8191) × (of .b2 ≤ 8191) × (owner .b2 ≤ 8191) × (before .resets ≤ 8191) × (length (now slots) ≡ allSlots) × (queueOf p (of .call) < 8) × (shape .size ≤ 64) ⌝ }
-    ensures { λ r. ⌜ Moves (shape .width) (shape .size) p n entries (processIn of) before (processIn owner) (now (slots .entry)) (now (log .entry)) r (now (slots .exit)) (now (log .exit)) ⌝ }
+    word: PackedWord,
+    resets: u16,
+    stepped: PackedStep,
+) -> Told
+    requires { ⌜ (n ≤ 8191) × (of .b2 ≤ 8191) × (owner .b2 ≤ 8191) × (resets ≤ 8191) ⌝ }
+    ensures { λ r. ⌜ Tells p n entries (processIn of) (processIn owner) word resets stepped (now (log .entry)) r (now (log .exit)) ⌝ }
 {
-    let stage = of.stage;
-    let call = of.call;
-    let word = before.word;
     let age = word.age;
-    let q = moment::queue_of(p, call);
-    let stepped = step_slots(shape.width, shape.size, word, slots, q, stage);
     let next = stepped.next;
     let over = moment::ended(p, n, of, owner, age.top(), next);
     keep(log, entries, over);
-    let queue = queue_after(before, stepped);
-    let process = process_after(n, before.resets, of, next);
-    Moved {
-        queue,
-        process,
+    let again = resets + 1;
+    Told {
         more: count(over),
-        gone: moment::gone_round(of, before.resets, next),
+        gone: moment::gone_round(of, resets, next),
+        resets: if_so(stepped.reset, again, resets),
     }
 }
 
@@ -179,13 +175,13 @@ fn call_in(file: &[u8], shape: Shape, k: u16) -> Call
     }
 }
 
-// An idle process with a call left begins it.
-pub(crate) fn ready(file: &[u8], shape: Shape, n: u16, of: Process) -> Process
-    ensures { λ r. ⌜ processIn r ≡ readyOf (firstCalls (now (file .entry)) (shape .processes) (shape .calls)) n (processIn of) ⌝ }
+// An idle process with a call left begins it; none is begun in the closing.
+pub(crate) fn ready(file: &[u8], shape: Shape, closing: bool, n: u16, of: Process) -> Process
+    ensures { λ r. ⌜ processIn r ≡ cond closing (processIn of) (readyOf (firstCalls (now (file .entry)) (shape .processes) (shape .calls)) n (processIn of)) ⌝ }
 {
     let stage = of.stage;
     let k = of.next;
-    if stage.is_idle() & (k < of.stop) {
+    if stage.is_idle() & (k < of.stop) & !closing {
         begun(n, call_in(file, shape, k), of)
     } else {
         of

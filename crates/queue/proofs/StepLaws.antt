@@ -11,7 +11,7 @@ use borrow.Author.Tests.{leb-false, eqb-false}
 use Rattle.word.proofs.TagLaws.{next-below}
 use Rattle.range.specs.inner.Facts.{WordIn, StageIn, InRange}
 use Rattle.base.proofs.Cases.{either-way}
-use Rattle.word.proofs.StepsLeft.{stepsLeft}
+use Rattle.word.specs.inner.StepsLeft.{stepsLeft}
 use Rattle.queue.specs.Step.{leaves, resets, sameAge, rowOf, loadedSlot, stored, stageAfter, resultOf, inSixteen, steppedOn, StepOn}
 use Rattle.queue.proofs.Below.{LoadsBelow, StoresBelow}
 use Rattle.word.specs.declared.Word.{Word}

@@ -8,7 +8,7 @@ use native.Mathlib.Decide.{decLt}
 use lib.ListN.{length, getD, set, length-set}
 use Rattle.base.specs.Lists.{listOf}
 use Rattle.word.specs.Stages.{isIdle}
-use Rattle.word.proofs.StepsLeft.{stepsLeft}
+use Rattle.word.specs.inner.StepsLeft.{stepsLeft}
 use Rattle.queue.specs.Step.{loaded, loadedSlot, stageAfter}
 use Rattle.queue.proofs.StepLaws.{lowers, returned}
 use Rattle.word.specs.declared.Stage.{Stage}

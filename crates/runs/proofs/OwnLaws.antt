@@ -13,7 +13,7 @@ use Rattle.base.proofs.Lists.{all-snoc}
 use Rattle.base.proofs.Cases.{either-way, ever, if-set}
 use Rattle.log.specs.declared.Entry.{Entry}
 use Rattle.word.specs.Stages.{isIdle}
-use Rattle.word.proofs.StepsLeft.{stepsLeft}
+use Rattle.word.specs.inner.StepsLeft.{stepsLeft}
 use Rattle.word.specs.declared.Stage.{Stage}
 use Rattle.word.specs.declared.Word.{Word}
 use Rattle.queue.specs.Step.{loadedSlot, loaded, stageAfter}

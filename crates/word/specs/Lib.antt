@@ -4,3 +4,5 @@ pub mod Tag
 pub mod Stages
 -- Computed.
 pub mod Worked
+-- Terms of the code: a reader may skip them.
+pub mod inner

@@ -5,7 +5,7 @@ use Rattle.bench.proofs.finish.Tie as tie
 
 fill-requires : tie.Need-fill-requires
 fill-requires c κs =
-    let s = c .before .before .before .before .before .before .before .before in
+    let s = c .before .before .before .before .before .before .before .before .before in
     (s .pre .all-slots, s .pre .size, s .pre .processes)
 
 pub finish-spec : {M : Type 1} → statement M

@@ -10,7 +10,7 @@ use Rattle.log.specs.Encode.{headBytes}
 use Rattle.runfile.specs.File.{mostSize}
 use Rattle.runfile.specs.declared.Shape.{Shape}
 use Rattle.runs.specs.Run.{tableSize, tableAt}
-use Rattle.bench.specs.inner.Layout.{benchIn, allSlots, slotsIn}
+use Rattle.bench.specs.inner.Layout.{benchIn, Whole, allSlots, slotsIn}
 use Rattle.runs.specs.inner.Counted.{Counted}
 use Rattle.bench.specs.declared.Bench.{Bench as HeldBench}
 
@@ -23,6 +23,7 @@ pub record Finishes (P C : ℕ) (b : HeldBench) (flat buffer : List ℕ) (writte
 
 -- where that part begins
 pub record Ends (shape : Shape) (b : HeldBench) (flat : List ℕ) : Type 0 where
+  pub whole : Whole b
   pub counted : Counted (b .entries) (benchIn b)
   pub processes : shape .processes ≤ 8
   pub size : shape .size ≤ mostSize

@@ -1,8 +1,9 @@
 -- How a state lies in the program: in its structs, with top and tag in one word, all queues' slots in one row, C for each queue, and the log as
 -- its bytes.
-use Prim.Native.Nat.{ℕ, suc, _+_, _*_, _≤_, _<_}
+use Prim.Native.Nat.{ℕ, suc, _+_, _*_, _/_, _%_, _≤_, _<_}
 use mathlib.Core.Path.{_≡_}
-use mathlib.Core.List.{List, [], _∷_, map}
+use mathlib.Core.Bool.{cond}
+use mathlib.Core.List.{List, [], _∷_}
 use lib.ListN.{length, getD, take, drop, set}
 use Rattle.base.specs.Bytes.{putAt}
 use Rattle.base.specs.Lists.{listOf}
@@ -13,30 +14,28 @@ use Rattle.queue.specs.Step.{stored, inSixteen, steppedOn}
 use Rattle.queue.specs.Packed.{unpacked, unpackedStep, topOf}
 use Rattle.queue.specs.declared.PackedStep.{PackedStep}
 use Rattle.queue.specs.declared.PackedWord.{PackedWord}
+use Rattle.word.specs.inner.StepsLeft.{stepsLeft}
 use Rattle.word.specs.declared.Stage.{Stage}
+use Rattle.word.specs.declared.Stage.the-variants.{Idle}
 use Rattle.runfile.specs.File.{mostSize}
-use Rattle.runfile.specs.declared.Call.{Call}
+use Rattle.runfile.specs.declared.Call.the-variants.{Push}
 use Rattle.runfile.specs.declared.Shape.{Shape}
-use Rattle.runs.specs.State.{Queue, Process, Bench, State, queueCount}
-use Rattle.runs.specs.Moment.{queueOf, Ended, Nothing, ends, ended, goneRound}
+use Rattle.runs.specs.State.{Queue, Process, Bench, State, queueCount, processAt}
+use Rattle.runs.specs.Moment.{Ended, Nothing, ends, ended, goneRound}
 use Rattle.runs.specs.inner.Counted.{Counted}
 use Rattle.runs.specs.inner.Sound.{Sizes, Fit, Sound}
-use Rattle.runs.specs.Turn.{queueAfter, processAfter, entriesIn}
+use Rattle.runs.specs.inner.Left.{total}
+use Rattle.runs.specs.Run.{tableRowLength, inTable}
+use Rattle.runs.specs.Turn.{entriesIn}
 use Rattle.bench.specs.declared.Bench.{Bench as HeldBench}
 use Rattle.bench.specs.declared.Ended.{Ended as HeldEnded}
 use Rattle.bench.specs.declared.Ended.the-variants as held
 use Rattle.bench.specs.declared.Process.{Process as HeldProcess}
-use Rattle.bench.specs.declared.Queue.{Queue as HeldQueue}
-use Rattle.bench.specs.declared.turn.Moved.{Moved}
+use Rattle.bench.specs.declared.Script.{Script}
+use Rattle.bench.specs.declared.Standing.{Standing}
+use Rattle.bench.specs.declared.turn.Told.{Told}
 
 -- what the program's structs stand for
-abbrev pub queueIn : HeldQueue → Queue
-queueIn m = record { word = unpacked (m .word); resets = m .resets }
-
--- what the program's array of queues has past its end
-abbrev pub freshHeld : HeldQueue
-freshHeld = record { word = record { bottom = 0; age = record { word = 0 } }; resets = 0 }
-
 abbrev pub processIn : HeldProcess → Process
 processIn r = record {
   stage = r .stage;
@@ -48,12 +47,57 @@ processIn r = record {
   resetsAtT1 = r .«resets_at_t1»;
 }
 
+-- a process's record from its parts, and the part that changes with its calls
+abbrev pub recordOf : Standing → Script → ℕ → ℕ → Process
+recordOf z c b2 resets = record {
+  stage = z .stage;
+  call = c .call;
+  next = c .next;
+  stop = c .stop;
+  start = c .start;
+  b2 = b2;
+  resetsAtT1 = resets;
+}
+
+abbrev pub scriptOf : Process → Script
+scriptOf r = record { call = r .call; next = r .next; stop = r .stop; start = r .start }
+
+-- what the program's arrays have past their end
+abbrev pub freshHeld : PackedWord
+freshHeld = record { bottom = 0; age = record { word = 0 } }
+
+abbrev pub idleHeld : Standing
+idleHeld = record { stage = Idle }
+
+abbrev pub noScript : Script
+noScript = record { call = Push 0; next = 0; stop = 0; start = 0 }
+
+-- queue q and process p of the program's arrays
+abbrev pub queueIn : HeldBench → ℕ → Queue
+queueIn b q = record { word = unpacked (getD (b .words) q freshHeld); resets = getD (b .resets) q 0 }
+
+abbrev pub recordIn : HeldBench → ℕ → Process
+recordIn b p = recordOf (getD (b .standings) p idleHeld) (getD (b .scripts) p noScript) (getD (b .b2s) p 0) (getD (b .«resets_at_t1») p 0)
+
+-- where process p stands; the rest of its record does not matter here
+abbrev pub standingIn : List Standing → ℕ → Process
+standingIn l p = recordOf (getD l p idleHeld) noScript 0 0
+
 abbrev pub endedIn : HeldEnded → Ended
 endedIn held.Nothing = Nothing
 endedIn (held.Call e) = ends e
 
 abbrev pub benchIn : HeldBench → Bench
-benchIn b = record { queues = map queueIn (b .queues); processes = map processIn (b .processes); steps = b .steps; gone = b .gone }
+benchIn b = record { queues = listOf queueCount (queueIn b); processes = listOf queueCount (recordIn b); steps = b .steps; gone = b .gone }
+
+-- each of its arrays has eight elements
+pub record Whole (b : HeldBench) : Type 0 where
+  pub words : length (b .words) ≡ queueCount
+  pub resets : length (b .resets) ≡ queueCount
+  pub standings : length (b .standings) ≡ queueCount
+  pub scripts : length (b .scripts) ≡ queueCount
+  pub b2s : length (b .b2s) ≡ queueCount
+  pub resets-at-t1 : length (b .«resets_at_t1») ≡ queueCount
 
 -- the row of all slots has room for eight queues of the greatest C
 abbrev pub allSlots : ℕ
@@ -65,6 +109,10 @@ slotsOf C flat q = take C (drop (C * q) flat)
 
 abbrev pub slotsIn : ℕ → List ℕ → List (List ℕ)
 slotsIn C flat = listOf queueCount (slotsOf C flat)
+
+-- number k of the final table, from the words of the program's queues
+abbrev pub wordsTable : ℕ → List PackedWord → List (List ℕ) → ℕ → ℕ
+wordsTable P words slots k = inTable P (unpacked (getD words (k / tableRowLength) freshHeld)) slots (k / tableRowLength) (k % tableRowLength)
 
 -- the state that a bench and its slots stand for, before anything is logged
 abbrev pub stateIn : ℕ → HeldBench → List ℕ → State
@@ -82,6 +130,7 @@ putEntries n (e ∷ es) log = putEntries (suc n) es (putAt (logLength n) (entryB
 
 -- bench, slots and log have become those of a state s, from a bench with n entries and the bytes of its log
 pub record Becomes (C n : ℕ) (log : List ℕ) (s : State) (b′ : HeldBench) (flat′ log′ : List ℕ) : Type 0 where
+  pub whole : Whole b′
   pub bench : benchIn b′ ≡ s .bench
   pub count : b′ .entries ≡ n + length (s .log)
   pub slots : slotsIn C flat′ ≡ s .slots
@@ -90,40 +139,33 @@ pub record Becomes (C n : ℕ) (log : List ℕ) (s : State) (b′ : HeldBench) (
 abbrev pub sizesIn : Shape → Sizes
 sizesIn shape = record { width = shape .width; size = shape .size; processes = shape .processes }
 
--- where the loop over a schedule begins, and where the closing does: at a state in which all is in range
-pub record ToPlay (shape : Shape) (schedule : List ℕ) (b : HeldBench) (flat : List ℕ) : Type 0 where
+-- where the loop over a schedule begins: at a state in which all is in range, and whose log has room for every call that is left
+pub record ToWalk (shape : Shape) (schedule : List ℕ) (b : HeldBench) (flat : List ℕ) : Type 0 where
+  pub whole : Whole b
   pub counted : Counted (b .entries) (benchIn b)
+  pub left : total (benchIn b .processes) + b .entries ≤ shape .calls
   pub few : b .steps + length schedule ≤ 4144
   pub all-slots : length flat ≡ allSlots
   pub fit : Fit (sizesIn shape)
   pub sound : Sound (sizesIn shape) (stateIn (shape .size) b flat)
   pub below : (k : ℕ) → k < length schedule → getD schedule k 0 < shape .processes
 
+-- where the closing begins: each half-done call has made a step, and has at most six left
 pub record ToClose (shape : Shape) (b : HeldBench) (flat : List ℕ) : Type 0 where
+  pub whole : Whole b
   pub counted : Counted (b .entries) (benchIn b)
+  pub left : total (benchIn b .processes) + b .entries ≤ shape .calls
+  pub six : (p : ℕ) → stepsLeft (processAt (benchIn b) p .stage) ≤ 6
   pub few : b .steps ≤ 4096
   pub all-slots : length flat ≡ allSlots
   pub fit : Fit (sizesIn shape)
   pub sound : Sound (sizesIn shape) (stateIn (shape .size) b flat)
 
--- what step n of process p changes: r, before and owner are the records of the process, of its call's queue and of the queue's owner
-pub record Moves (W C p n entries : ℕ) (r : Process) (before : HeldQueue) (owner : Process) (flat log : List ℕ) (m : Moved) (flat′ log′ : List ℕ) : Type 0 where
-  pub step : PackedStep
+-- what the end of a call gives the log and the counts: r and owner are the records of its process and of its queue's owner, w and resets the queue's
+pub record Tells (p n entries : ℕ) (r owner : Process) (w : PackedWord) (resets : ℕ) (step : PackedStep) (log : List ℕ) (m : Told) (log′ : List ℕ) : Type 0 where
   pub over : Ended
-  pub slots : StepsIn W C (before .word) flat (queueOf p (r .call)) (r .stage) step flat′
-  pub ends : over ≡ ended p n r owner (topOf (before .word .age .word)) (step .next)
+  pub ends : over ≡ ended p n r owner (topOf (w .age .word)) (step .next)
   pub bytes : log′ ≡ putEntries entries (entriesIn over) log
-  pub queue : queueIn (m .queue) ≡ queueAfter (queueIn before) (unpackedStep step)
-  pub process : processIn (m .process) ≡ processAfter n (before .resets) r (step .next)
   pub more : m .more ≡ length (entriesIn over)
-  pub gone : m .gone ≡ goneRound r (before .resets) (step .next)
-
--- the bench with what a step of process p on queue q changes
-abbrev pub movedBench : HeldBench → ℕ → ℕ → Moved → HeldBench
-movedBench b p q m = record {
-  queues = set (b .queues) q (m .queue);
-  processes = set (b .processes) p (m .process);
-  entries = b .entries + m .more;
-  steps = b .steps + 1;
-  gone = b .gone + m .gone;
-}
+  pub gone : m .gone ≡ goneRound r resets (step .next)
+  pub again : m .resets ≡ cond (step .reset) (resets + 1) resets

@@ -5,7 +5,7 @@ use Rattle.bench.proofs.start.scripted.Statement.{statement}
 use Rattle.bench.proofs.start.scripted.Tie as tie
 
 returns : tie.Need-returns
-returns c = rw (c .waiting .ensures, c .before .calls-before2 .ensures, c .before .before .calls-before .ensures, add-one)
+returns c = rw (c .calls-before2 .ensures, c .before .calls-before .ensures, add-one)
 
 pub scripted-spec : {M : Type 1} → statement M
 scripted-spec =
@@ -13,6 +13,5 @@ scripted-spec =
     (tie.spec
     (λ c κs. search needs)
     (λ c. search needs)
-    (λ c κs. search needs)
     (λ c κs. search needs)
     returns)

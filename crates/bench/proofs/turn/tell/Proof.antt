@@ -1,0 +1,29 @@
+-- `turn::tell` meets its contract: each part of it is what one call ensures.
+use borrow.Author.Needs.{needs}
+use Rattle.bench.specs.inner.Layout.{endedIn}
+use Rattle.bench.proofs.turn.tell.Statement.{statement}
+use Rattle.bench.proofs.turn.tell.Tie as tie
+
+returns : tie.Need-returns
+returns c = record {
+  over = endedIn (c .before .before .before .before .before .before .before .ended .result);
+  ends = rw (← c .before .before .before .before .before .before .before .before .top .ensures) (c .before .before .before .before .before .before .before .ended .ensures);
+  bytes = c .before .before .before .before .before .keep .ensures;
+  more = c .before .before .count .ensures;
+  gone = c .before .gone-round .ensures;
+  again = c .if-so .ensures;
+}
+
+pub tell-spec : {M : Type 1} → statement M
+tell-spec =
+    tie.close
+    (tie.spec
+    (λ c κs. search needs)
+    (λ c κs. search needs)
+    (λ c κs. search needs)
+    (λ c. search needs)
+    (λ c κs. search needs)
+    (λ c κs. search needs)
+    (λ c κs. search needs)
+    (λ c. search needs)
+    returns)
