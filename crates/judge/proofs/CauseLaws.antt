@@ -1,6 +1,6 @@
 -- Rule 5 by what is kept of each queue, where all moments up to the call's end have been passed.
 use mathlib.Core.Path.{_≡_, refl, sym, ap, _∙_}
-use mathlib.Core.Bool.{Bool, true, false, _&&_, not}
+use mathlib.Core.Bool.{Bool, true, false, cond, _&&_, not}
 use mathlib.Core.Logic.{_⊎_, inl, inr}
 use mathlib.Core.List.{List}
 use Prim.Native.Nat.{ℕ, suc, _+_, _-_, _*_, _≤_, _<_}
@@ -20,7 +20,7 @@ use Rattle.rules.specs.Rules.{isEmpty, inCall, emptyWithin, takesTopmost, remov
 use Rattle.base.proofs.Bools.{contra, and-i, and-0, and-1, or-l, or-r, or-e, by-both, not-i, not-e, not-so}
 use Rattle.rules.proofs.SearchLaws.{any-e, any-i, from-i, from-e}
 use Rattle.rules.proofs.ContentLaws.{topmost, last-one}
-use Rattle.judge.specs.inner.Order.{momentAt, instant, Fields, Ordered}
+use Rattle.judge.specs.inner.Order.{momentAt, indexAt, instant, Fields, Ordered}
 use Rattle.judge.specs.inner.Causes.{uncausedBy, Clean}
 use Rattle.judge.proofs.ReplayLaws.{event-of, passed, still, now-is, own-is}
 use Rattle.judge.proofs.ShelfLaws.{Shelf, takes, Shelves, full-of, empty-of}
@@ -189,6 +189,10 @@ module _ (f : ℕ → Entry) (n : ℕ) (keys : List ℕ) (count : ℕ) (o : Orde
       (not-so other (not-e other (and-1 (ltb 0 h && leb since a) (not other) t)))))
       (λ t. from (ltb 0 h) (leb since a) other refl refl refl (not-e (hasCause f n e) t))
 
+pub chosen-low : (t : Bool) (x y r m : ℕ) → r ≡ cond t x y → x < m → y < m → r < m
+chosen-low true x y r m e u v = omega arith
+chosen-low false x y r m e u v = omega arith
+
 pub moved-on : (keys : List ℕ) (k b : ℕ) → momentAt keys k ≤ b → instant keys (k + 1) ≤ b + 1
 moved-on keys k b h = let e : k + 1 ≡ suc k = omega arith in rw e (omega arith)
 
@@ -207,8 +211,17 @@ module _ (f : ℕ → Entry) (n : ℕ) (keys : List ℕ) (count : ℕ) (cl : Cle
       split (yes d) = omega (arith, moved-on keys k (2 * f j .end + 1) last, ap (λ (y : ℕ). f y .end) d)
       split (no d) = omega (arith, moved-on keys k (2 * f j .end + 1) last, cl .ends j x (omega arith) w)
 
-  pub nil-low : (e : Entry) (j : ℕ) → e ≡ f j → j < n → e .queue < 8
-  nil-low e j g u = omega (arith, ap (λ (y : Entry). y .queue) g, cl .fields j u .queue)
+  pub nil-low : (e : Entry) (j : ℕ) → e ≡ f j → j < n → (e .queue < 8) × (e .start < 32768)
+  nil-low e j g u =
+      let r = cl .fields j u in
+      (omega (arith, ap (λ (y : Entry). y .queue) g, r .queue), omega (arith, ap (λ (y : Entry). y .start) g, r .start, r .end))
+
+  -- a moment is below 65,535, so that the one after it has two bytes
+  pub call-early : (e : Entry) (k : ℕ) → e ≡ f (indexAt keys k) → k < count → e .moment + 1 < 65536
+  call-early e k g u =
+      let j = indexAt keys k in
+      let v = cl .ordered .index k u in
+      omega (arith, ap (λ (y : Entry). y .moment) g, cl .moments j v .to (cl .ordered .borne k u), cl .fields j v .end)
 
   not-due : (k b : ℕ) → (ltb k count && leb (momentAt keys k) b) ≡ false → k < count → b < momentAt keys k
   not-due k b h u = leb-false (momentAt keys k) b (sym (ap (λ (t : Bool). t && leb (momentAt keys k) b) (lt-ltb k count u)) ∙ h)
@@ -217,7 +230,7 @@ module _ (f : ℕ → Entry) (n : ℕ) (keys : List ℕ) (count : ℕ) (cl : Cle
       → (e : Entry) → e ≡ f j
       → (ltb k count && leb (momentAt keys k) (2 * e .end + 1)) ≡ false → isTopNil (what e) ≡ true → uncausedBy held filled took e ≡ breaks5 f n j
   query-told k within held filled took s j u pass e g due nil =
-      cause-is f n keys count (cl .ordered) (cl .fields) k within held filled took s e (nil-low e j g u)
+      cause-is f n keys count (cl .ordered) (cl .fields) k within held filled took s e (nil-low e j g u .0)
       (omega (arith, ap (λ (y : Entry). y .start) g, ap (λ (y : Entry). y .end) g, cl .fields j u .start))
       (not-due k (2 * e .end + 1) due) (omega (arith, ap (λ (y : Entry). y .end) g, pass j (omega arith) u))
       ∙ sym (ap (λ (t : Bool). t && not (hasCause f n e)) nil)

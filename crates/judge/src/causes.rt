@@ -48,8 +48,15 @@ fn due(keys: &[usize], count: usize, k: usize, to: usize) -> bool
     }
 }
 
+// A number of two bytes from an array, whose range is known of a parameter and not of what is read there.
+fn wide(x: u16) -> usize
+    ensures { λ r. ⌜ (r ≡ x) × (r < 65536) ⌝ }
+{
+    x as usize
+}
+
 // Whether another process took from the top of queue q at a moment from this one on.
-fn other_took(took: &[usize; 64], q: usize, process: usize, from: usize) -> bool
+fn other_took(took: &[u16; 64], q: usize, process: usize, from: u16) -> bool
     requires { ⌜ q < 8 ⌝ }
     ensures { λ r. ⌜ r ≡ any (λ p. not (eqb p process) && ltb from (getD (now (took .entry)) (8 * q + p) 0)) 8 ⌝ }
 {
@@ -65,16 +72,16 @@ fn other_took(took: &[usize; 64], q: usize, process: usize, from: usize) -> bool
 }
 
 // Whether a NIL top pop has no cause, where all moments up to its end have been gone through.
-fn uncaused(held: &[usize; 8], filled: &[usize; 8], took: &[usize; 64], nil: Entry) -> bool
-    requires { ⌜ nil .queue < 8 ⌝ }
+fn uncaused(held: &[usize; 8], filled: &[usize; 8], took: &[u16; 64], nil: Entry) -> bool
+    requires { ⌜ (nil .queue < 8) × (nil .start < 32768) ⌝ }
     ensures { λ r. ⌜ r ≡ uncausedBy (now (held .entry)) (now (filled .entry)) (now (took .entry)) nil ⌝ }
 {
     let on = nil.queue as usize;
-    let from = 2 * (nil.start as usize);
+    let from = 2 * nil.start;
     let h = held[on];
     let f = filled[on];
     let other = other_took(took, on, nil.process as usize, from);
-    (0 < h) & (f <= from) & !other
+    (0 < h) & (f <= from as usize) & !other
 }
 
 // The first entry that breaks rule 5, or n. Of each queue: how many nodes it holds, the moment at which it was filled, and for each process the
@@ -85,7 +92,7 @@ pub(crate) fn first_uncaused(log: &[u8], n: usize, keys: &[usize], count: usize)
 {
     let mut held: [usize; 8] = [0; 8];
     let mut filled: [usize; 8] = [0; 8];
-    let mut took: [usize; 64] = [0; 64];
+    let mut took: [u16; 64] = [0; 64];
     let mut k: usize = 0;
     let mut j: usize = 0;
     while j < n {
@@ -103,10 +110,10 @@ pub(crate) fn first_uncaused(log: &[u8], n: usize, keys: &[usize], count: usize)
             let at = 8 * q + e.process as usize;
             let h = held[q];
             let f = filled[q];
-            let t = took[at];
+            let t = wide(took[at]);
             held[q] = held_after(what(e), h);
             filled[q] = choose(pushed(e) & (h == 0), moment, f);
-            took[at] = choose(took_top(e), moment + 1, t);
+            took[at] = choose(took_top(e), moment + 1, t) as u16;
             k = k + 1;
             continue;
         }

@@ -6,6 +6,7 @@ use lib.ListN.{length}
 use Rattle.log.specs.Decode.{entryAt}
 use Rattle.log.specs.declared.Entry.{Entry}
 use Rattle.rules.specs.Judge.{first3, first4, first5}
+use Rattle.rules.proofs.KeptLaws.{moments-of}
 use Rattle.rules.proofs.VerdictLaws.{pass, says0, says3, says4, says5, says6}
 use Rattle.judge.specs.inner.Order.{Ordered}
 use Rattle.judge.proofs.moment_rules_in.Statement.{statement}
@@ -69,7 +70,13 @@ first-uncaused-requires : tie.Need-first-uncaused-requires
 first-uncaused-requires c κs =
     let e3 = c .before .before .before .before .before .before .before .before .before .before in
     let s = start1 e3 in (
-      record { small = small s; fields = s .pre .0; ordered = ordered e3; ends = λ i j u v. s .pre .1 i j u v .ends-rise },
+      record {
+        small = small s;
+        fields = s .pre .0;
+        moments = moments-of (log-of s) (s .args .n) (kept3 e3);
+        ordered = ordered e3;
+        ends = λ i j u v. s .pre .1 i j u v .ends-rise;
+      },
       s .pre .2,
       keyed e3,
     )

@@ -8,6 +8,7 @@ use Rattle.log.specs.declared.Entry.{Entry}
 use Rattle.log.specs.declared.What.{What}
 use Rattle.log.specs.declared.What.the-variants.{Pushed, Full, BottomNode, BottomNil, TopNode, TopNil, TopLost}
 use Rattle.rules.specs.Search.{any}
+use Rattle.rules.specs.Accepted.{Rule3}
 use Rattle.judge.specs.inner.Order.{Fields, Ordered}
 
 -- how many nodes a lawful call leaves of so many
@@ -26,9 +27,10 @@ uncausedBy held filled took e =
     ltb 0 (getD held (e .queue) 0) && leb (getD filled (e .queue) 0) (2 * e .start)
     && not (any (λ p. not (eqb p (e .process)) && ltb (2 * e .start) (getD took (8 * e .queue + p) 0)) 8)
 
--- rule 1 is kept, ends rise, and the keys are those of the entries
+-- rules 1 and 3 are kept, ends rise, and the keys are those of the entries
 pub record Clean (f : ℕ → Entry) (n : ℕ) (keys : List ℕ) (count : ℕ) : Type 0 where
   pub small : n ≤ 256
   pub fields : Fields f n
+  pub moments : (j : ℕ) → j < n → Rule3 (f j)
   pub ordered : Ordered f n keys count
   pub ends : (i j : ℕ) → i < j → j < n → f i .end < f j .end

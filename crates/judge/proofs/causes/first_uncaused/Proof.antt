@@ -10,6 +10,8 @@ use borrow.Author.Tests.{not-true, not-false, ltb-true, leb-true}
 use lib.Dec.{eqb, ltb, leb}
 use lib.ListN.{getD}
 use Rattle.log.specs.declared.What.{What}
+use Rattle.log.specs.declared.What.the-variants.{TopNode}
+use Rattle.log.specs.Numbers.{what, same}
 use Rattle.log.specs.Decode.{entryAt}
 use Rattle.log.specs.declared.Entry.{Entry}
 use Rattle.base.proofs.Bools.{and-0, and-1}
@@ -19,7 +21,7 @@ use Rattle.rules.specs.Rules.{breaks5}
 use Rattle.judge.specs.inner.Order.{momentAt, indexAt, instant}
 use Rattle.judge.specs.inner.Causes.{heldAfter}
 use Rattle.judge.proofs.ShelfLaws.{Shelves, shelves-start, told, shelves-told}
-use Rattle.judge.proofs.CauseLaws.{passed-next, nil-low, query-told, skip-told}
+use Rattle.judge.proofs.CauseLaws.{chosen-low, call-early, passed-next, nil-low, query-told, skip-told}
 use Rattle.judge.proofs.causes.first_uncaused.Statement.{statement}
 use Rattle.judge.proofs.causes.first_uncaused.Tie as tie
 
@@ -56,7 +58,7 @@ below c = c .before .before .loop-test .taken
 is : (c : Read) → got c ≡ fun c (loop-at c .loop .j)
 is c = c .before .entry .ensures
 
-nil-low-of : (c : Read) → got c .queue < 8
+nil-low-of : (c : Read) → (got c .queue < 8) × (got c .start < 32768)
 nil-low-of c =
     let a = start c .args in
     nil-low (fun c) (a .n) (keys-of c) (a .count) (start c .pre .0) (got c) (loop-at c .loop .j) (is c) (below c)
@@ -204,52 +206,63 @@ mul-f c = omega (arith, call-low c .0)
 array-read-f : tie.Need-array-read-f Inv-loop μ-loop
 array-read-f c = call-low c .0
 
-mul-t : tie.Need-mul-t Inv-loop μ-loop
-mul-t c = omega (arith, call-low c .0, call-low c .1)
+mul-wide : tie.Need-mul-wide Inv-loop μ-loop
+mul-wide c = omega (arith, call-low c .0, call-low c .1)
 
-array-read-t : tie.Need-array-read-t Inv-loop μ-loop
-array-read-t c = omega (arith, call-low c .0, call-low c .1)
+array-read-wide : tie.Need-array-read-wide Inv-loop μ-loop
+array-read-wide c = omega (arith, call-low c .0, call-low c .1)
 
 held-after-requires : tie.Need-held-after-requires Inv-loop μ-loop
-held-after-requires c κs = omega (arith, call-low (c .before) .2, due-low (fed-due (c .before)))
+held-after-requires c κs = omega (arith, call-low (c .before .before) .2, due-low (fed-due (c .before .before)))
 
 mul-held : tie.Need-mul-held Inv-loop μ-loop
-mul-held c = omega (arith, call-low (c .before .before) .0)
+mul-held c = omega (arith, call-low (c .before .before .before) .0)
 
 array-write-held : tie.Need-array-write-held Inv-loop μ-loop
-array-write-held c = call-low (c .before .before) .0
+array-write-held c = call-low (c .before .before .before) .0
 
 mul-filled : tie.Need-mul-filled Inv-loop μ-loop
-mul-filled c = omega (arith, call-low (c .before .before .before .before) .0)
+mul-filled c = omega (arith, call-low (c .before .before .before .before .before) .0)
 
 array-write-filled : tie.Need-array-write-filled Inv-loop μ-loop
-array-write-filled c = call-low (c .before .before .before .before) .0
+array-write-filled c = call-low (c .before .before .before .before .before) .0
+
+cast-took : tie.Need-cast-took Inv-loop μ-loop
+cast-took c =
+    let k = c .before .before .before .before .before .before .before in
+    let d = fed-due k in
+    let r = due-read d in
+    let a = start r .args in
+    let early = call-early (fun r) (a .n) (keys-of r) (a .count) (start r .pre .0) (call k) (loop-at r .loop .k) (call-is k) (due-below d) in
+    let low = chosen-low (c .before .took-top .result) (call k .moment + 1) (c .before .before .before .before .before .before .wide .result) _ 65536 (c .choose2 .ensures) early
+    (c .before .before .before .before .before .before .wide .ensures .1) in
+    omega (arith, low)
 
 mul-took : tie.Need-mul-took Inv-loop μ-loop
 mul-took c = omega (
   arith,
-  call-low (c .before .before .before .before .before .before) .0,
+  call-low (c .before .before .before .before .before .before .before) .0,
   call-low
-      (c .before .before .before .before .before .before) .1,
+      (c .before .before .before .before .before .before .before) .1,
 )
 
 array-write-took : tie.Need-array-write-took Inv-loop μ-loop
 array-write-took c = omega (
   arith,
-  call-low (c .before .before .before .before .before .before) .0,
+  call-low (c .before .before .before .before .before .before .before) .0,
   call-low
-      (c .before .before .before .before .before .before) .1,
+      (c .before .before .before .before .before .before .before) .1,
 )
 
 add-k : tie.Need-add-k Inv-loop μ-loop
-add-k c = omega (arith, due-low (fed-due (c .before .before .before .before .before .before)))
+add-k c = omega (arith, due-low (fed-due (c .before .before .before .before .before .before .before)))
 
 loop-less-2 : tie.Need-loop-less-2 Inv-loop μ-loop
-loop-less-2 c = omega (arith, due-below (fed-due (c .before .before .before .before .before .before)))
+loop-less-2 c = omega (arith, due-below (fed-due (c .before .before .before .before .before .before .before)))
 
 loop-again-2 : tie.Need-loop-again-2 Inv-loop μ-loop
 loop-again-2 c =
-    let k = c .before .before .before .before .before .before in
+    let k = c .before .before .before .before .before .before .before in
     let d = fed-due k in
     let r = due-read d in
     let a = start r .args in
@@ -264,8 +277,8 @@ loop-again-2 c =
           ∙ ap (λ (w : What). heldAfter w (getD (l .held) (e .queue) 0)) (c .before .before .before .before .before .what .ensures))
           (c .before .before .choose .ensures ∙ ap (λ (t : Bool). cond (t && eqb (getD (l .held) (e .queue) 0) 0) (e .moment)
           (getD (l .filled) (e .queue) 0)) (c .before .before .before .pushed .ensures))
-          (c .choose2 .ensures ∙ ap (λ (t : Bool). cond t (e .moment + 1) (getD (l .took) (8 * e .queue + e .process) 0))
-          (c .before .took-top .ensures)),
+          (c .choose2 .ensures ∙ ap (λ (t : Bool). cond t (e .moment + 1) (c .before .before .before .before .before .before .wide .result)) (c .before .took-top .ensures)
+          ∙ ap (λ (x : ℕ). cond (same TopNode (what e)) (e .moment + 1) x) (c .before .before .before .before .before .before .wide .ensures .0)),
       passed-next (fun r) (a .n) (keys-of r) (a .count) (start r .pre .0) (got r) (l .k) (l .j) (is r) (below r) (due-upto d),
     )
 
@@ -328,8 +341,9 @@ first-uncaused-spec =
     array-read-h
     mul-f
     array-read-f
-    mul-t
-    array-read-t
+    mul-wide
+    array-read-wide
+    (λ c κs. search needs)
     (λ c κs. search needs)
     held-after-requires
     mul-held
@@ -341,6 +355,7 @@ first-uncaused-spec =
     (λ c κs. search needs)
     (λ c. search needs)
     (λ c κs. search needs)
+    cast-took
     mul-took
     array-write-took
     add-k
