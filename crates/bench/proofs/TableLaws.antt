@@ -6,26 +6,23 @@ use native.Mathlib.Omega.{arith}
 use native.Mathlib.Decide.{decLt, ℕ-discrete}
 use lib.ListN.{length, getD, take, drop, set, replicate, length-append, length-take, length-drop, length-set}
 use lib.ListN.{getD-replicate, List·getD-append, List·getD-eq-default}
-use lib.Seq.{sets-eq, take-take, take-all, length-take-le, getD-take, getD-drop, getD-append-add, ext-getD}
+use lib.Seq.{sets-eq, length-take-le, getD-take, getD-drop, getD-append-add, ext-getD}
 use borrow.Author.Tests.{lt-ltb, le-ltb, le-leb}
 use Rattle.base.specs.Bytes.{putAt}
 use Rattle.base.specs.Lists.{listOf}
 use Rattle.base.proofs.Lists.{listOf-length, listOf-getD}
 use Rattle.word.specs.declared.Word.{Word}
-use Rattle.runfile.specs.Check.{sum}
-use Rattle.runfile.specs.File.{firstLengths, callsBefore}
-use Rattle.runs.specs.State.{Queue}
-use Rattle.runs.specs.Run.{tableRow, inTable, tableAt}
-use Rattle.bench.specs.declared.Bench.{Bench as HeldBench}
-use Rattle.bench.specs.inner.Layout.{benchIn, slotsOf, slotsIn, wordsTable}
-use Rattle.bench.proofs.LayoutLaws.{slots-get, queue-is}
+use Rattle.runfile.specs.File.{lengthAt, firstLengths}
+use Rattle.runs.specs.Run.{tableRow, inTable}
+use Rattle.bench.specs.inner.Layout.{slotsOf, slotsIn}
+use Rattle.bench.proofs.LayoutLaws.{slots-get}
 
--- the calls before those of process p
-pub shares-below : (s : List ℕ) (P p : ℕ) → p < P → sum (take p (firstLengths s P)) ≡ callsBefore s p
-shares-below s P p h = ap sum (take-take p P (drop 4 s) (omega arith))
+-- the script length of process p; from P on there is none
+pub share-there : (s : List ℕ) (P p : ℕ) → p < P → lengthAt s p ≡ getD (firstLengths s P) p 0
+share-there s P p h = sym (getD-take P (drop 4 s) p 0 h ∙ getD-drop 4 s p 0)
 
-pub shares-past : (s : List ℕ) (P p : ℕ) → P ≤ p → sum (take p (firstLengths s P)) ≡ callsBefore s P
-shares-past s P p h = ap sum (take-all p (firstLengths s P) (omega (arith, length-take P (drop 4 s))))
+pub share-past : (s : List ℕ) (P p : ℕ) → P ≤ p → 0 ≡ getD (firstLengths s P) p 0
+share-past s P p h = sym (List·getD-eq-default (firstLengths s P) 0 {n = p} (omega (arith, length-take P (drop 4 s))))
 
 -- numbers put into a list, by places
 module _ (at : ℕ) (xs l : List ℕ) (h : at + length xs ≤ length l) where
@@ -143,14 +140,3 @@ module _ (C : ℕ) (flat : List ℕ) (q : ℕ) where
 
   pub part-small : C ≤ 64 → length (take (C * q + C - C * q) (drop (C * q) flat)) ≤ 64
   part-small h = omega (arith, ap length part-is, length-take C (drop (C * q) flat))
-
--- the table from the words of the program's queues is that of the queues that they stand for
-same-values : (n : ℕ) (f g : ℕ → ℕ) → ((k : ℕ) → k < n → f k ≡ g k) → listOf n f ≡ listOf n g
-same-values n f g h =
-    ext-getD 0 (listOf n f) (listOf n g) (listOf-length n f ∙ sym (listOf-length n g))
-    (λ k l. let m : k < n = omega (arith, listOf-length n f) in listOf-getD n f 0 k m ∙ h k m ∙ sym (listOf-getD n g 0 k m))
-
-pub words-table : (P : ℕ) (b : HeldBench) (slots : List (List ℕ)) → listOf 536 (wordsTable P (b .words) slots) ≡ listOf 536 (tableAt P (benchIn b) slots)
-words-table P b slots =
-    same-values 536 (wordsTable P (b .words) slots) (tableAt P (benchIn b) slots)
-    (λ k h. ap (λ (m : Queue). inTable P (m .word) slots (k / 67) (k % 67)) (sym (queue-is b (k / 67) (omega arith))))

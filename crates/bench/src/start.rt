@@ -1,7 +1,7 @@
 // The start of a run: eight fresh queues, and each process with its share of the calls.
 ghost use mathlib.Core.Path.{_≡_};
-ghost use Prim.Native.Nat.{_<_};
-ghost use lib.ListN.{take};
+ghost use Prim.Native.Nat.{_+_, _*_, _≤_, _<_};
+ghost use lib.ListN.{getD, take};
 ghost use Rattle.runfile.specs.Check.{sum};
 ghost use Rattle.runfile.specs.File.{firstLengths};
 ghost use Rattle.bench.specs.inner.Layout.{recordOf, idleHeld, benchIn, Whole};
@@ -14,24 +14,23 @@ use queue::PackedWord;
 use runfile::Call;
 use word::Stage;
 
-// How many calls stand before those of process p; from P on, all.
-fn calls_before(file: &[u8], processes: u8, p: u8) -> u16
-    ensures { λ r. ⌜ r ≡ sum (take p (firstLengths (now (file .entry)) processes)) ⌝ }
+// How many calls process p has; from P on, none.
+fn share(file: &[u8], processes: u8, p: u8) -> u16
+    ensures { λ r. ⌜ (r ≡ getD (firstLengths (now (file .entry)) processes) p 0) × (r ≤ 255) ⌝ }
 {
     if p < processes {
-        runfile::calls_before(file, p)
+        base::u8_to_u16(runfile::length_at(file, p))
     } else {
-        runfile::calls_before(file, processes)
+        0
     }
 }
 
-// The calls of process p, before the first of them.
-fn scripted(file: &[u8], processes: u8, p: u8) -> Script
-    requires { ⌜ p < 8 ⌝ }
-    ensures { λ r. ⌜ recordOf idleHeld r 0 0 ≡ scriptedOf (firstLengths (now (file .entry)) processes) p ⌝ }
+// Process p before its first call: its calls begin where those of the process before it stop.
+fn scripted(file: &[u8], processes: u8, p: u8, next: u16) -> Script
+    requires { ⌜ (next ≡ sum (take p (firstLengths (now file) processes))) × (next ≤ 255 * p) × (p < 8) ⌝ }
+    ensures { λ r. ⌜ (recordOf idleHeld r 0 0 ≡ scriptedOf (firstLengths (now (file .entry)) processes) p) × (r .stop ≤ 255 * (p + 1)) ⌝ }
 {
-    let next = calls_before(file, processes, p);
-    let stop = calls_before(file, processes, p + 1);
+    let stop = next + share(file, processes, p);
     Script {
         call: Call::Push(0),
         next,
@@ -47,14 +46,14 @@ pub(crate) fn start(file: &[u8], processes: u8) -> Bench
     let word = PackedWord { bottom: 0, age };
     let stage = Stage::Idle;
     let idle = Standing { stage };
-    let a = scripted(file, processes, 0);
-    let b = scripted(file, processes, 1);
-    let c = scripted(file, processes, 2);
-    let d = scripted(file, processes, 3);
-    let e = scripted(file, processes, 4);
-    let f = scripted(file, processes, 5);
-    let g = scripted(file, processes, 6);
-    let h = scripted(file, processes, 7);
+    let a = scripted(file, processes, 0, 0);
+    let b = scripted(file, processes, 1, a.stop);
+    let c = scripted(file, processes, 2, b.stop);
+    let d = scripted(file, processes, 3, c.stop);
+    let e = scripted(file, processes, 4, d.stop);
+    let f = scripted(file, processes, 5, e.stop);
+    let g = scripted(file, processes, 6, f.stop);
+    let h = scripted(file, processes, 7, g.stop);
     Bench {
         words: [word; 8],
         resets: [0; 8],
