@@ -5,9 +5,9 @@ use borrow.Author.Needs.{needs}
 use lib.ListN.{length}
 use Rattle.log.specs.Decode.{entryAt}
 use Rattle.log.specs.declared.Entry.{Entry}
-use Rattle.rules.specs.Judge.{first3, first4, first5}
+use Rattle.rules.specs.Judge.{first3, first4}
 use Rattle.rules.proofs.KeptLaws.{moments-of}
-use Rattle.rules.proofs.VerdictLaws.{pass, says0, says3, says4, says5, says6}
+use Rattle.rules.proofs.VerdictLaws.{pass, says3, says4}
 use Rattle.judge.specs.inner.Order.{Ordered}
 use Rattle.judge.proofs.moment_rules_in.Statement.{statement}
 use Rattle.judge.proofs.moment_rules_in.Tie as tie
@@ -19,9 +19,6 @@ start1 c = c .before .before .before .before .before .before .before .before .be
 abbrev start2 : tie.Else2 → tie.Start
 start2 c = start1 (c .before .before .before .before .before .before .before .before .before)
 
-abbrev start3 : tie.Else3 → tie.Start
-start3 c = start2 (c .before .before .before)
-
 abbrev log-of : tie.Start → ℕ → Entry
 log-of s = entryAt (s .args .log .now)
 
@@ -30,9 +27,6 @@ kept3 c = pass _ _ _ (c .before .before .before .by-moment .ensures .0) (c .if1 
 
 kept4 : (c : tie.Else2) → start2 c .args .n ≤ first4 (log-of (start2 c)) (start2 c .args .n)
 kept4 c = pass _ _ _ (c .before .before .before .before .before .first-unlawful .ensures) (c .if2 .left)
-
-kept5 : (c : tie.Else3) → start3 c .args .n ≤ first5 (log-of (start3 c)) (start3 c .args .n)
-kept5 c = pass _ _ _ (c .before .first-uncaused .ensures) (c .if3 .left)
 
 ordered : (c : tie.Else1) → Ordered (log-of (start1 c)) (start1 c .args .n) (c .before .before .before .by-moment .last .1 .1 .0)
     (c .before .before .before .by-moment .result .count)
@@ -66,9 +60,10 @@ returns-2 c =
     says4 (log-of (start1 e3)) (a .n) (a .slots) _ (kept3 e3) _ (c .before .before .before .before .before .before .first-unlawful .ensures) (c .before .if2 .taken)
     (c .verdict-of2 .ensures)
 
-first-uncaused-requires : tie.Need-first-uncaused-requires
-first-uncaused-requires c κs =
-    let e3 = c .before .before .before .before .before .before .before .before .before .before in
+last-rules-requires : tie.Need-last-rules-requires
+last-rules-requires c κs =
+    let e4 = c .before in
+    let e3 = e4 .before .before .before .before .before .before .before .before .before in
     let s = start1 e3 in (
       record {
         small = small s;
@@ -79,35 +74,8 @@ first-uncaused-requires c κs =
       },
       s .pre .2,
       keyed e3,
+      (kept3 e3, kept4 e4),
     )
-
-returns-3 : tie.Need-returns-3
-returns-3 c =
-    let e4 = c .before .before .before .before in
-    let a = start2 e4 .args in
-    says5 (log-of (start2 e4)) (a .n) (a .slots) _ (kept3 (e4 .before .before .before .before .before .before .before .before .before)) (kept4 e4) _ (c .before .before .first-uncaused .ensures)
-    (c .before .if3 .taken) (c .verdict-of3 .ensures)
-
-first-unfilled-requires : tie.Need-first-unfilled-requires
-first-unfilled-requires c κs =
-    let s = start3 c in
-    (small s, s .pre .0, s .pre .2)
-
-returns-4 : tie.Need-returns-4
-returns-4 c =
-    let e5 = c .before .before .before in
-    let e4 = e5 .before .before .before in
-    let a = start3 e5 .args in
-    says6 (log-of (start3 e5)) (a .n) (a .slots) _ (kept3 (e4 .before .before .before .before .before .before .before .before .before)) (kept4 e4) (kept5 e5) _
-    (c .before .before .first-unfilled .ensures) (c .before .if4 .taken) (c .verdict-of4 .ensures)
-
-returns-5 : tie.Need-returns-5
-returns-5 c =
-    let e5 = c .before .before .before in
-    let e4 = e5 .before .before .before in
-    let a = start3 e5 .args in
-    says0 (log-of (start3 e5)) (a .n) (a .slots) _ (kept3 (e4 .before .before .before .before .before .before .before .before .before)) (kept4 e4) (kept5 e5)
-    (pass _ _ _ (c .before .before .first-unfilled .ensures) (c .before .if4 .left)) (c .verdict-of5 .ensures)
 
 pub moment-rules-in-spec : {M : Type 1} → statement M
 moment-rules-in-spec =
@@ -123,20 +91,8 @@ moment-rules-in-spec =
     (λ c. search needs)
     (λ c. search needs)
     returns-2
-    first-uncaused-requires
-    (λ c κs. search needs)
+    last-rules-requires
     (λ c. search needs)
     (λ c. search needs)
     (λ c. search needs)
-    returns-3
-    first-unfilled-requires
-    (λ c κs. search needs)
-    (λ c. search needs)
-    (λ c. search needs)
-    (λ c. search needs)
-    returns-4
-    (λ c κs. search needs)
-    (λ c. search needs)
-    (λ c. search needs)
-    (λ c. search needs)
-    returns-5)
+    (λ c. search needs))

@@ -9,6 +9,7 @@ use Rattle.log.specs.declared.What.{What}
 use Rattle.log.specs.declared.What.the-variants.{Pushed, Full, BottomNode, BottomNil, TopNode, TopNil, TopLost}
 use Rattle.rules.specs.Search.{any}
 use Rattle.rules.specs.Accepted.{Rule3}
+use Rattle.rules.specs.Judge.{first3, first4}
 use Rattle.judge.specs.inner.Order.{Fields, Ordered}
 
 -- how many nodes a lawful call leaves of so many
@@ -34,3 +35,7 @@ pub record Clean (f : ℕ → Entry) (n : ℕ) (keys : List ℕ) (count : ℕ) :
   pub moments : (j : ℕ) → j < n → Rule3 (f j)
   pub ordered : Ordered f n keys count
   pub ends : (i j : ℕ) → i < j → j < n → f i .end < f j .end
+
+-- rules 3 and 4 are kept
+abbrev pub Kept34 : (ℕ → Entry) → ℕ → Type 0
+Kept34 f n = (n ≤ first3 f n) × (n ≤ first4 f n)
