@@ -1,6 +1,6 @@
 -- `judge::replay::first_unlawful` meets its contract. The loop keeps `Replayed`: after the first k moments each row holds what its queue held, and no
 -- call was unlawful.
-use mathlib.Core.Path.{_≡_, refl, sym, _∙_}
+use mathlib.Core.Path.{_≡_, sym, _∙_}
 use mathlib.Core.List.{List}
 use Prim.Native.Nat.{ℕ, _-_, _*_, _≤_, _<_}
 use native.Mathlib.Omega.{arith}
@@ -56,7 +56,8 @@ told-of c =
     let l = loop-at c .loop in
     let a = start c .args in
     let p = start c .pre in
-    let t = told (fun c) (a .n) (keys c) (a .count) (p .1) (l .k) (below c) (a .width) (l .nodes) (l .lo) (l .hi) (l .added) (l .c) (l .inv .1) (p .3 .fits) (p .0)
+    let t = told (fun c) (a .n) (keys c) (a .count) (p .1) (l .k) (below c) (a .width) (l .nodes) (l .lo) (l .hi)
+    (l .added) (l .c) (l .inv .1) (p .3 .fits) (p .0)
     (got c) (is c) in
     (t .queue, t .low, t .high)
 
@@ -68,7 +69,8 @@ few c =
     let l = loop-at c .loop in
     let a = start c .args in
     let p = start c .pre in
-    added-low (fun c) (a .n) (keys c) (a .count) (p .1) (l .k) (below c) (a .width) (l .nodes) (l .lo) (l .hi) (l .added) (l .c) (l .inv .1) (p .3 .fits) (p .0)
+    added-low (fun c) (a .n) (keys c) (a .count) (p .1) (l .k) (below c) (a .width) (l .nodes) (l .lo) (l .hi)
+    (l .added) (l .c) (l .inv .1) (p .3 .fits) (p .0)
 
 -- where it has been judged
 abbrev Judged : Type 0
@@ -82,7 +84,8 @@ ok-is c =
     let l = loop-at r .loop in
     let a = start r .args in
     let p = start r .pre in
-    ok-told (fun r) (a .n) (keys r) (a .count) (p .1) (l .k) (below r) (a .width) (l .nodes) (l .lo) (l .hi) (l .added) (l .c) (l .inv .1) (p .3 .fits) (p .0) (got r)
+    ok-told (fun r) (a .n) (keys r) (a .count) (p .1) (l .k) (below r) (a .width) (l .nodes) (l .lo) (l .hi)
+    (l .added) (l .c) (l .inv .1) (p .3 .fits) (p .0) (got r)
     (is r)
     _ _ _ _ _ (r .before .what .ensures) (r .pushed .ensures) (c .before .before .before .choose .ensures) (c .before .before .added-in .ensures)
     (c .lawful .ensures)
@@ -146,7 +149,8 @@ returns c =
     let a = start r .args in
     let p = start r .pre in
     worst-is (fun r) (a .n) (keys r) (a .count) (p .1) (l .k) (below r)
-    (wrong-is (fun r) (a .n) (keys r) (a .count) (p .1) (l .k) (below r) (a .width) (l .nodes) (l .lo) (l .hi) (l .added) (l .c) (l .inv .1) (p .3 .fits) (p .0)
+    (wrong-is (fun r) (a .n) (keys r) (a .count) (p .1) (l .k) (below r) (a .width) (l .nodes) (l .lo) (l .hi)
+    (l .added) (l .c) (l .inv .1) (p .3 .fits) (p .0)
     (sym (ok-is (c .before)) ∙ not-true _ (c .if1 .taken)))
     (l .inv .1 .fine)
 
@@ -193,7 +197,8 @@ loop-again c =
     let a = start r .args in
     let p = start r .pre in (
       omega (arith, below r),
-      turn-told (fun r) (a .n) (keys r) (a .count) (p .1) (l .k) (below r) (a .width) (l .nodes) (l .lo) (l .hi) (l .added) (l .c) (l .inv .1) (p .3 .fits) (p .0)
+      turn-told (fun r) (a .n) (keys r) (a .count) (p .1) (l .k) (below r) (a .width) (l .nodes) (l .lo) (l .hi)
+          (l .added) (l .c) (l .inv .1) (p .3 .fits) (p .0)
           (got r) (is r)
           _ _ _ _ _ (r .before .what .ensures) (r .pushed .ensures) (c .before .moved .ensures .0) (c .before .moved .ensures .1)
           (c .choose2 .ensures) (sym (ok-is (c .before .before .before)) ∙ not-false _ (c .before .before .if1 .left)),
