@@ -1,6 +1,6 @@
 -- `start::scripted` meets its contract.
 use Prim.Native.Nat.{suc, _+_}
-use mathlib.Core.Path.{_≡_, ap, _∙_}
+use mathlib.Core.Path.{_≡_, ap}
 use native.Mathlib.Numerals.{add-one}
 use native.Mathlib.Omega.{arith}
 use borrow.Author.Needs.{needs}
