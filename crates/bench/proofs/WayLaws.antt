@@ -18,7 +18,7 @@ use Rattle.queue.specs.declared.Next.the-variants.{Going, Done, Node, Nil, Lost
 use Rattle.queue.specs.declared.Stepped.{Stepped}
 use Rattle.queue.specs.declared.PackedStep.{PackedStep}
 use Rattle.queue.proofs.StepLaws.{sixteen-in}
-use Rattle.range.specs.inner.Facts.{InRange}
+use Rattle.word.specs.inner.InRange.{InRange}
 use Rattle.runfile.specs.declared.Call.{Call}
 use Rattle.runfile.specs.declared.Call.the-variants.{Push, Pop, Take}
 use Rattle.runs.specs.Moment.{queueOf, ended, goneRound, Ended, Nothing}

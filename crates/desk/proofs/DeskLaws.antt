@@ -7,7 +7,7 @@ use native.Mathlib.Decide.{decLt}
 use native.Mathlib.Omega.{arith}
 use lib.ListN.{length}
 use Rattle.range.specs.Range.{inRange}
-use Rattle.range.specs.inner.Facts.{SizesIn, WordIn, StageIn, InRange}
+use Rattle.word.specs.inner.InRange.{SizesIn, WordIn, StageIn, InRange}
 use Rattle.range.proofs.RangeLaws.{in-range, range-in}
 use Rattle.queue.specs.Step.{rowOf, loadedSlot, loaded, stored, steppedOn, stageAfter, resultOf as nextResult, StepOn}
 use Rattle.queue.proofs.StepLaws.{sixteen-in}

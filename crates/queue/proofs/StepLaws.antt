@@ -9,7 +9,7 @@ use lib.Pow.{pow-mono}
 use lib.Dec.{leb, ltb, eqb}
 use borrow.Author.Tests.{leb-false, eqb-false}
 use Rattle.word.proofs.TagLaws.{next-below}
-use Rattle.range.specs.inner.Facts.{WordIn, StageIn, InRange}
+use Rattle.word.specs.inner.InRange.{WordIn, StageIn, InRange}
 use Rattle.base.proofs.Cases.{either-way}
 use Rattle.word.specs.inner.StepsLeft.{stepsLeft}
 use Rattle.queue.specs.Step.{leaves, resets, sameAge, rowOf, loadedSlot, stored, stageAfter, resultOf, inSixteen, steppedOn, StepOn}

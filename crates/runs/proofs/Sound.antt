@@ -8,7 +8,7 @@ use lib.Dec.{ltb}
 use lib.ListN.{length, getD, length-set, replicate, length-replicate, getD-replicate}
 use lib.Pow.{pow-pos}
 use Rattle.range.specs.Range.{inRange}
-use Rattle.range.specs.inner.Facts.{WordIn, StageIn}
+use Rattle.word.specs.inner.InRange.{WordIn, StageIn}
 use Rattle.range.proofs.RangeLaws.{range-in}
 use Rattle.word.specs.Stages.{isIdle}
 use Rattle.queue.specs.Step.{loadedSlot, loaded, stored}

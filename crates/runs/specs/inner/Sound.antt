@@ -6,7 +6,7 @@ use mathlib.Core.Bool.{Bool, true, false, _&&_, _||_}
 use mathlib.Core.List.{List, []}
 use lib.Dec.{leb, eqb}
 use lib.ListN.{length, getD}
-use Rattle.range.specs.inner.Facts.{WordIn, StageIn}
+use Rattle.word.specs.inner.InRange.{WordIn, StageIn}
 use Rattle.word.specs.Stages.{rowNumber}
 use Rattle.word.specs.declared.Stage.{Stage}
 use Rattle.word.specs.declared.Stage.the-variants.{Idle}

@@ -11,7 +11,7 @@ use lib.Seq.{slice, slice-cons, slice-empty, set-getD}
 use Rattle.desk.specs.Desk.{answerOf, numberOf, stageOf, deskAnswer, deskWord, deskSlots}
 use Rattle.desk.proofs.DeskLaws.{number-told, stage-told, row-done}
 use Rattle.range.specs.Range.{inRange}
-use Rattle.range.specs.inner.Facts.{StageIn}
+use Rattle.word.specs.inner.InRange.{StageIn}
 use Rattle.range.proofs.RangeLaws.{range-in}
 use Rattle.word.specs.Stages.{isIdle}
 use Rattle.queue.specs.Step.{rowOf, loadedSlot, loaded, stored, stageAfter}

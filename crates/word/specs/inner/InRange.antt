@@ -1,9 +1,9 @@
--- `inRange` as facts on numbers, which the rows ask for.
+-- What it is to be in range, as facts on numbers: the rows of the table ask for them, and `inRange` of crate `range` tests them.
 use mathlib.Core.Path.{_≡_}
 use Prim.Native.Nat.{ℕ, _^_, _≤_, _<_}
 use Rattle.word.specs.declared.Word.{Word}
 use Rattle.word.specs.declared.Stage.{Stage}
 use Rattle.word.specs.declared.Stage.the-variants.{Idle, P1, P2, P3, T1, T2, T3, T4, B1, B2, B3, B4, B5, B6, B7}
 
 pub record SizesIn (W C slots : ℕ) : Type 0 where
   pub width-high : W ≤ 16
