@@ -1,10 +1,8 @@
--- The desk: what it gives back for a stage lent with a word and slots, and the word and the slots after it. The step is the table's; a step
--- out of range is refused with 10, before any access, and the stage is given back as lent.
+-- The desk: what it gives back for a stage lent with a word and slots, and the word and the slots after it. The step is the table's.
 use Rattle.base.specs.Words.{ℕ, cond, List, [], length, _≡_}
 use Rattle.range.specs.Range.{inRange}
-use Rattle.queue.specs.Step.{stored, steppedOn, stageAfter, resultOf as nextResult}
-use Rattle.word.specs.declared.{Word.Word, Stage.Stage}
-use Rattle.queue.specs.declared.Next.{Next}
+use Rattle.queue.specs.{Step.stored, Step.steppedOn, Step.stageAfter, Step.resultOf as nextResult, declared.Next.Next}
+use Rattle.word.specs.{declared.Word.Word, declared.Stage.Stage}
 use Rattle.queue.specs.declared.Next.the-variants as next
 use Rattle.desk.specs.declared.Answer.{Answer}
 use Rattle.desk.specs.declared.Answer.the-variants.{Going, Done, Node, Nil, Lost, Full, Refused}
@@ -55,8 +53,7 @@ deskWord W C w slots s = cond (inRange W C (length slots) w s) (steppedOn W C w 
 abbrev pub deskSlots : ℕ → ℕ → Word → List ℕ → Stage → List ℕ
 deskSlots W C w slots s = cond (inRange W C (length slots) w s) (stored slots (steppedOn W C w slots s .store)) slots
 
--- what the desk promises of its answer, with this paper's number and values, of the word and of the slots after it; 10 is given exactly where the
--- step is out of range, and the stage is then given back as lent
+-- what the desk promises of its answer, with this paper's number and values, and of the word and the slots after it: 10 exactly where out of range
 pub record AtDesk (W C : ℕ) (w : Word) (slots : List ℕ) (s : Stage) (answer : Answer) (word : Word) (after : List ℕ) : Type 0 where
   pub answered : answer ≡ deskAnswer W C w slots s
   pub numbered : numberOf answer ≡ cond (inRange W C (length slots) w s) 0 10
