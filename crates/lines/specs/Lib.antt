@@ -1,5 +1,4 @@
--- What a line typed at the desk says, and a stage as it is printed.
+-- What a line typed at the desk says.
 pub mod Line
-pub mod Printed
 -- Computed: lines.
 pub mod Worked

@@ -1,13 +1,12 @@
--- What a line typed at the desk says: its words, byte by byte, then the table of stages. Words stand apart by blanks; a number is 0 to 65,535 in
--- decimal, and 65,536 stands for a word that is none.
+-- What a line typed at the desk says. Words stand apart by blanks; a number is 0 to 65,535, and 65,536 stands for a word that is none.
 use Rattle.base.specs.Words.{ℕ, _+_, _-_, _*_, Bool, true, false, cond, _&&_, _||_, ltb, eqb, List, [], _∷_}
 use Prim.Native.Char.{code}
 use Prim.Native.String.{String, [] as empty, _∷_ as _then_}
 use Rattle.word.specs.declared.Stage.{Stage}
 use Rattle.word.specs.declared.Stage.the-variants.{Idle, P1, P2, P3, T1, T2, T3, T4, B1, B2, B3, B4, B5, B6, B7}
 use Rattle.lines.specs.{declared.words.Words.Words, declared.Line.Line, declared.Sizes.Sizes}
-use Rattle.lines.specs.declared.Line.the-variants as line
 use Rattle.lines.specs.declared.Why.the-variants.{Nothing, NoStage, Count, NoNumber}
+use Rattle.lines.specs.declared.Line.the-variants as line
 use Rattle.lines.specs.declared.Sizes.the-variants as sizes
 use Rattle.lines.specs.declared.SizesWhy.the-variants as sizes-why
 
@@ -80,8 +79,9 @@ abbrev pub is : Words → String → Bool
 is w name = eqb (w .name) (spelling 1 (typed name))
 
 -- the stages, each with how many words its line has, and where its numbers stand
-abbrev pub bottomAs : Words → ℕ → ℕ → ℕ → ℕ → Line
-bottomAs w b x t g =
+abbrev pub bottomOf : Words → Line
+bottomOf w =
+    let b = small (w .a) in let x = small (w .b) in let t = small (w .c) in let g = small (w .d) in
     cond (is w "B1") (taken w 1 B1)
     (cond (is w "B2") (taken w 2 (B2 b))
     (cond (is w "B3") (taken w 2 (B3 b))
@@ -91,30 +91,23 @@ bottomAs w b x t g =
     (cond (is w "B7") (taken w 5 (B7 b x t g))
     (line.Wrong NoStage)))))))
 
-abbrev pub bottomOf : Words → Line
-bottomOf w = bottomAs w (small (w .a)) (small (w .b)) (small (w .c)) (small (w .d))
-
-abbrev pub topAs : Words → ℕ → ℕ → ℕ → ℕ → Line
-topAs w t g b x =
+abbrev pub topOf : Words → Line
+topOf w =
+    let t = small (w .a) in let g = small (w .b) in let b = small (w .c) in let x = small (w .d) in
     cond (is w "T1") (taken w 1 T1)
     (cond (is w "T2") (taken w 3 (T2 t g))
     (cond (is w "T3") (taken w 4 (T3 t g b))
     (cond (is w "T4") (taken w 5 (T4 t g b x))
     (bottomOf w))))
 
-abbrev pub topOf : Words → Line
-topOf w = topAs w (small (w .a)) (small (w .b)) (small (w .c)) (small (w .d))
-
-abbrev pub stageAs : Words → ℕ → ℕ → Line
-stageAs w first second =
+abbrev pub stageOf : Words → Line
+stageOf w =
+    let first = small (w .a) in let second = small (w .b) in
     cond (is w "idle") (taken w 1 Idle)
     (cond (is w "P1") (taken w 2 (P1 first))
     (cond (is w "P2") (taken w 3 (P2 first second))
     (cond (is w "P3") (taken w 2 (P3 first))
     (topOf w))))
-
-abbrev pub stageOf : Words → Line
-stageOf w = stageAs w (small (w .a)) (small (w .b))
 
 -- a stage line
 abbrev pub lineIn : Words → Line

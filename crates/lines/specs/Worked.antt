@@ -4,10 +4,10 @@ use Prim.Native.String.{String}
 use Rattle.word.specs.declared.Stage.{Stage}
 use Rattle.word.specs.declared.Stage.the-variants.{Idle, P1, P2, P3, T1, T2, T3, T4, B1, B2, B3, B4, B5, B6, B7}
 use Rattle.lines.specs.{Line.typed, Line.lineOf, Line.sizesOf, declared.Line.Line, declared.Why.Why, declared.Sizes.Sizes}
-use Rattle.lines.specs.declared.Line.the-variants as line
 use Rattle.lines.specs.declared.Why.the-variants.{Nothing, NoStage, Count, NoNumber}
-use Rattle.lines.specs.declared.Sizes.the-variants as sizes
 use Rattle.lines.specs.declared.SizesWhy.{SizesWhy}
+use Rattle.lines.specs.declared.Line.the-variants as line
+use Rattle.lines.specs.declared.Sizes.the-variants as sizes
 use Rattle.lines.specs.declared.SizesWhy.the-variants as sizes-why
 
 -- texts that say stages, and texts that are wrong
@@ -20,31 +20,25 @@ stages = map (λ (z : Stage). line.Stage z)
 abbrev wrongs : List Why → List Line
 wrongs = map (λ (w : Why). line.Wrong w)
 
--- the fifteen stages
-fifteen :
+worked :
+    -- the fifteen stages
     (said ("idle" ∷ "P1 7" ∷ "P2 7 3" ∷ "P3 3" ∷ []) ≡ stages (Idle ∷ P1 7 ∷ P2 7 3 ∷ P3 3 ∷ []))
     × (said ("T1" ∷ "T2 1 255" ∷ "T3 1 255 4" ∷ "T4 1 255 4 7" ∷ []) ≡ stages (T1 ∷ T2 1 255 ∷ T3 1 255 4 ∷ T4 1 255 4 7 ∷ []))
     × (said ("B1" ∷ "B2 4" ∷ "B3 4" ∷ "B4 4 7" ∷ []) ≡ stages (B1 ∷ B2 4 ∷ B3 4 ∷ B4 4 7 ∷ []))
     × (said ("B5 4 7 1 255" ∷ "B6 4 7 1 255" ∷ "B7 4 7 1 255" ∷ []) ≡ stages (B5 4 7 1 255 ∷ B6 4 7 1 255 ∷ B7 4 7 1 255 ∷ []))
-fifteen = (refl, refl, refl, refl)
-
--- small letters, blanks, zeros in front; numbers to 65,535
-spelled : (said ("t2 1 255" ∷ "Idle" ∷ "  T2\t1   255 \r" ∷ "P1 007" ∷ []) ≡ stages (T2 1 255 ∷ Idle ∷ T2 1 255 ∷ P1 7 ∷ []))
+    -- small letters, blanks, zeros in front; numbers to 65,535
+    × (said ("t2 1 255" ∷ "Idle" ∷ "  T2\t1   255 \r" ∷ "P1 007" ∷ []) ≡ stages (T2 1 255 ∷ Idle ∷ T2 1 255 ∷ P1 7 ∷ []))
     × (said ("P1 0" ∷ "P1 65535" ∷ []) ≡ stages (P1 0 ∷ P1 65535 ∷ []))
     × (said ("P1 65536" ∷ "P1 99999999999999999999" ∷ "P1 7x" ∷ "P1 -7" ∷ []) ≡ wrongs (replicate 4 (NoNumber (P1 0))))
     × (said ("T3 1 2 T" ∷ []) ≡ wrongs (NoNumber (T3 1 2 0) ∷ []))
-spelled = (refl, refl, refl, refl)
-
--- a word too many, and too few; the number of words is looked at before they are
-counted : (said ("T1 0" ∷ "T2 1" ∷ "T3 1 2 3 4" ∷ "B7 1 2 3" ∷ []) ≡ wrongs (Count T1 ∷ Count (T2 1 0) ∷ Count (T3 1 2 3) ∷ Count (B7 1 2 3 0) ∷ []))
+    -- a word too many, and too few; the number of words is looked at before they are
+    × (said ("T1 0" ∷ "T2 1" ∷ "T3 1 2 3 4" ∷ "B7 1 2 3" ∷ []) ≡ wrongs (Count T1 ∷ Count (T2 1 0) ∷ Count (T3 1 2 3) ∷ Count (B7 1 2 3 0) ∷ []))
     × (said ("B7 1 2 3 4 5" ∷ "B7 1 2 3 4 5 6 7 8" ∷ []) ≡ wrongs (replicate 2 (Count (B7 1 2 3 4))))
     × (said ("P1" ∷ "P1 x y" ∷ []) ≡ wrongs (replicate 2 (Count (P1 0))))
-counted = (refl, refl, refl)
-
--- no stage, and nothing
-none : (said ("P4 1" ∷ "T5" ∷ "B8 1" ∷ "P" ∷ "P11" ∷ "P17" ∷ "idles" ∷ "8 4" ∷ "\0T1" ∷ "T1\0" ∷ []) ≡ wrongs (replicate 10 NoStage))
+    -- no stage, and nothing
+    × (said ("P4 1" ∷ "T5" ∷ "B8 1" ∷ "P" ∷ "P11" ∷ "P17" ∷ "idles" ∷ "8 4" ∷ "\0T1" ∷ "T1\0" ∷ []) ≡ wrongs (replicate 10 NoStage))
     × (said ("" ∷ " \t\r" ∷ []) ≡ wrongs (replicate 2 Nothing))
-none = (refl, refl)
+worked = (refl, refl, refl, refl, refl, refl, refl, refl, refl, refl, refl, refl, refl)
 
 abbrev read : List String → List Sizes
 read = map (λ (s : String). sizesOf (typed s))
