@@ -1,9 +1,8 @@
--- The steps of the queue, row by row as in document 01's table. W is the tag's width, C the number of slots, w the control word,
--- v the value of the slot that the stage loads.
+-- Document 01's table, row by row. W is the tag's width, C the number of slots, w the control word, v the value of the slot that is loaded.
 use Rattle.base.specs.Words.{ℕ, _+_, _-_, _%_, Bool, true, false, cond, _&&_, ltb, leb, eqb, List, [], _∷_, getD, set, _≡_}
 use Rattle.word.specs.{Tag.nextTag, Stages.rowNumber, Stages.firstLoaded, declared.Word.Word, declared.Stage.Stage}
 use Rattle.word.specs.declared.Stage.the-variants.{Idle, P1, P2, P3, T1, T2, T3, T4, B1, B2, B3, B4, B5, B6, B7}
-use Rattle.queue.specs.declared.{Next.Next, Load.Load, Store.Store, Stepped.Stepped}
+use Rattle.queue.specs.{declared.Next.Next, declared.Load.Load, declared.Store.Store, declared.Stepped.Stepped}
 use Rattle.queue.specs.declared.Next.the-variants.{Going, Done, Node, Nil, Lost, Full}
 use Rattle.queue.specs.declared.Load.the-variants as load
 use Rattle.queue.specs.declared.Store.the-variants as store
@@ -18,9 +17,6 @@ ageTo w t g = record { bottom = w .bottom; top = t; tag = g }
 abbrev pub leaves : Word → Next → Stepped
 leaves w n = record { word = w; store = store.Nothing; reset = false; next = n }
 
-abbrev pub stores : Word → ℕ → ℕ → Next → Stepped
-stores w at node n = record { word = w; store = store.Slot at node; reset = false; next = n }
-
 -- age becomes (0, next g)
 abbrev pub resets : ℕ → Word → ℕ → Next → Stepped
 resets W w g n = record { word = ageTo w 0 (nextTag W g); store = store.Nothing; reset = true; next = n }
@@ -33,7 +29,7 @@ sameAge w t g = eqb (w .top) t && eqb (w .tag) g
 abbrev pub rowOf : ℕ → ℕ → Word → ℕ → Stage → Stepped
 rowOf W C w v Idle = leaves w (Going Idle)
 rowOf W C w v (P1 node) = cond (eqb (w .bottom) C) (leaves w Full) (leaves w (Going (P2 node (w .bottom))))
-rowOf W C w v (P2 node b) = stores w b node (Going (P3 b))
+rowOf W C w v (P2 node b) = record { word = w; store = store.Slot b node; reset = false; next = Going (P3 b) }
 rowOf W C w v (P3 b) = leaves (bottomTo w (b + 1)) Done
 rowOf W C w v T1 = leaves w (Going (T2 (w .top) (w .tag)))
 rowOf W C w v (T2 t g) = cond (leb (w .bottom) t) (leaves w Nil) (leaves w (Going (T3 t g (w .bottom))))
@@ -47,8 +43,7 @@ rowOf W C w v (B5 b x t g) = leaves (bottomTo w 0) (Going (cond (eqb (b - 1) t) 
 rowOf W C w v (B6 b x t g) = cond (sameAge w t g) (resets W w g (Node x)) (leaves w (Going (B7 b x t g)))
 rowOf W C w v (B7 b x t g) = resets W w g Nil
 
--- what a stage touches: the slot that it loads, and by its row the slot that it stores. T3 loads slot t, and B3 slot b−1: each the number that
--- its call loaded first
+-- the slot that a stage loads: at T3 slot t, at B3 slot b−1, each by the number that its call loaded first
 abbrev pub loadedSlot : Stage → Load
 loadedSlot s =
     cond (eqb (rowNumber s) (rowNumber (T3 0 0 0))) (load.Slot (firstLoaded s))
@@ -84,8 +79,7 @@ resultOf Full = 2 ∷ []
 abbrev pub steppedOn : ℕ → ℕ → Word → List ℕ → Stage → Stepped
 steppedOn W C w slots s = rowOf W C w (loaded slots (loadedSlot s)) s
 
--- The code answers for every word and stage, with the numbers of the word as 16 bits: a bottom, top or tag above them goes round. A step in range leaves
--- no such number.
+-- The code answers for every word and stage, the numbers of the word as 16 bits: a larger one goes round. A step in range leaves none such.
 abbrev pub inSixteen : Stepped → Stepped
 inSixteen o = record {
   word = record { bottom = o .word .bottom % 65536; top = o .word .top % 65536; tag = o .word .tag % 65536 };
