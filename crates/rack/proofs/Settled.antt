@@ -3,7 +3,7 @@ use Prim.Native.Nat.{ℕ}
 use mathlib.Core.Path.{_≡_}
 use mathlib.Core.List.{List}
 use Rattle.base.proofs.Settled.{one-value}
-use Rattle.racks.specs.Promise.{Racked}
+use Rattle.racks.specs.Rack.{Racked}
 
 -- the number, the log buffer and the reply buffer
 pub rack-settled : (rack log replies : List ℕ) (n m : ℕ) (l l′ r r′ : List ℕ) → Racked rack log replies n l r → Racked rack log replies m l′ r′

@@ -3,7 +3,7 @@ ghost use mathlib.Core.Path.{_≡_};
 ghost use Prim.Native.Nat.{_%_};
 ghost use Rattle.base.specs.Bytes.{putAt};
 ghost use Rattle.racks.specs.Rack.{judged as judgedOf, rackOf, replyBytes};
-ghost use Rattle.racks.specs.Promise.{Racked};
+ghost use Rattle.racks.specs.Rack.{Racked};
 ghost use Rattle.racks.specs.inner.Walk.{isRack, RunsOne, Checked, RunsAll};
 
 // A reply has number, three counts of two bytes, and the judge's number.

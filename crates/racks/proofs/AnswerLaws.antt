@@ -9,7 +9,7 @@ use lib.Dec.{ltb}
 use lib.ListN.{length}
 use Rattle.base.specs.Bytes.{numberAt}
 use Rattle.base.proofs.Cases.{never, ever}
-use Rattle.racks.specs.Promise.{Gives, Racked}
+use Rattle.racks.specs.Rack.{Gives, Racked}
 use Rattle.racks.specs.Rack.{Split, bad, files, Answer, rackOf, replyLength, refusal, answered, answerTo}
 use Rattle.racks.specs.inner.Walk.{isRack, filesOf, RunsAll}
 use Rattle.racks.proofs.SplitLaws.{rack-counted}

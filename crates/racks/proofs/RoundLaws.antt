@@ -11,9 +11,13 @@ use lib.Seq.{drop-drop, getD-drop, take-append-seam, drop-append-seam}
 use Rattle.base.specs.Bytes.{Byte, Two, Bytes, joined, numberAt, pair, part}
 use Rattle.base.specs.Lists.{All}
 use Rattle.base.proofs.Bytes.{rejoined, high, low, part-length, part-get, no-bytes, all-bytes, both-bytes, pair-bytes}
-use Rattle.racks.specs.Rack.{Split, bad, files, before, fileEnd, filesIn, rackOf, Fit, filesBytes, rackBytes}
+use Rattle.racks.specs.Rack.{Split, bad, files, before, filesIn, rackOf, filesBytes, rackBytes}
 use Rattle.racks.specs.inner.Walk.{isRack, filesOf}
-use Rattle.racks.proofs.SplitLaws.{opened, ended, counted, rack-opens}
+use Rattle.racks.proofs.SplitLaws.{fileEnd, opened, ended, counted, rack-opens}
+
+-- files of bytes whose count and lengths fit two bytes
+abbrev pub Fit : List (List ℕ) → Type 0
+Fit fs = Two (length fs) × All (λ (f : List ℕ). Two (length f) × Bytes f) fs
 
 -- written, then split
 module _ (n : ℕ) (f rest : List ℕ) where

@@ -9,9 +9,9 @@ use Rattle.base.specs.Bytes.{numberAt, part, putAt}
 use Rattle.base.proofs.Bytes.{numberAt-drop, put-after}
 use Rattle.runs.specs.Promise.{bufferOf}
 use Rattle.runs.specs.Run.{runOf}
-use Rattle.racks.specs.Rack.{files, fileEnd, filesIn, rackOf, replyLength, replyOf, repliesOf, logAfter}
+use Rattle.racks.specs.Rack.{files, filesIn, rackOf, replyLength, replyTo, repliesOf, logAfter}
 use Rattle.racks.specs.inner.Walk.{filesOf, RunsOne, Checked, RunsAll}
-use Rattle.racks.proofs.SplitLaws.{Opened, opened, ended, rack-opens, rack-counted}
+use Rattle.racks.proofs.SplitLaws.{fileEnd, Opened, opened, ended, rack-opens, rack-counted}
 
 -- what the loop over the files keeps, i files on
 pub record Along (s log₀ replies₀ : List ℕ) (count : ℕ) (log replies : List ℕ) (at place i : ℕ) : Type 0 where
@@ -76,7 +76,7 @@ module _ (s log₀ replies₀ : List ℕ) (count : ℕ) (log replies : List ℕ)
       file = part s (at + 2) n
 
       abbrev reply : List ℕ
-      reply = replyOf (length log₀) file
+      reply = replyTo (runOf file (length log₀))
 
       first : w .rest ≡ file ∷ next .later
       first =
@@ -88,7 +88,7 @@ module _ (s log₀ replies₀ : List ℕ) (count : ℕ) (log replies : List ℕ)
       put : replies′ ≡ w .done ++ reply ++ drop (place + 8) replies₀
       put =
           g .replied
-          ∙ ap (λ (m : ℕ). putAt place (replyOf m file) replies) (w .kept)
+          ∙ ap (λ (m : ℕ). putAt place (replyTo (runOf file m)) replies) (w .kept)
           ∙ ap (λ (l : List ℕ). putAt place reply l) (w .replied)
           ∙ ap (λ (m : ℕ). putAt m reply (w .done ++ drop place replies₀)) (sym (w .filled))
           ∙ put-after (w .done) reply (drop place replies₀) (omega (arith, length-drop place replies₀, w .placed, w .room))

@@ -12,8 +12,12 @@ use Rattle.base.specs.Bytes.{numberAt, part}
 use Rattle.base.proofs.Bools.{by-both}
 use Rattle.base.proofs.Bytes.{numberAt-drop}
 use Rattle.base.proofs.Cases.{never, either-way}
-use Rattle.racks.specs.Rack.{Split, bad, files, before, fileEnd, filesIn, rackOf}
+use Rattle.racks.specs.Rack.{Split, bad, files, before, filesIn, rackOf}
 use Rattle.racks.specs.inner.Walk.{isRack, filesOf}
+
+-- where a file of so many bytes ends, after its length
+abbrev pub fileEnd : ℕ → ℕ
+fileEnd n = 2 + n
 
 -- what splits, splits into its files
 pub is-files : (x : Split) → isRack x ≡ true → x ≡ files (filesOf x)

@@ -1,7 +1,5 @@
--- A rack split into its files, its replies, and what the call answers.
+-- A rack split into its files, its replies, what the call answers, and what `rack` promises of it.
 pub mod Rack
--- What `rack` promises of it.
-pub mod Promise
 -- What single calls in its order give.
 pub mod Singly
 -- The worked racks, computed.

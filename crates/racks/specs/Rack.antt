@@ -1,7 +1,6 @@
 -- A rack of files: a two-byte count, then each file after its two-byte length; its replies, and what it leaves in the log buffer.
-use Rattle.base.specs.Words.{ℕ, zero, suc, _+_, _*_, cond, ltb, eqb, List, [], _∷_, _++_, length, drop}
-use Rattle.base.specs.Bytes.{Two, Bytes, numberAt, pair, part}
-use Rattle.base.specs.Lists.{All}
+use Rattle.base.specs.Words.{ℕ, zero, suc, _+_, _*_, cond, ltb, eqb, List, [], _∷_, _++_, length, drop, _≡_}
+use Rattle.base.specs.Bytes.{numberAt, pair, part}
 use Rattle.rules.specs.{Judge.judgeOf, declared.Verdict.Verdict}
 use Rattle.runs.specs.{Promise.bufferOf, Run.Outcome, Run.runOf}
 
@@ -15,25 +14,17 @@ abbrev pub before : List ℕ → Split → Split
 before file bad = bad
 before file (files fs) = files (file ∷ fs)
 
--- where a file of so many bytes ends, after its length
-abbrev pub fileEnd : ℕ → ℕ
-fileEnd n = 2 + n
-
 -- so many files, each after its length, and nothing after the last; a byte of a length past the end reads as 0, and the file then runs past the end
 abbrev pub filesIn : ℕ → List ℕ → Split
 filesIn zero s = cond (eqb (length s) 0) (files []) bad
 filesIn (suc n) s =
-    cond (ltb (length s) (fileEnd (numberAt s 0))) bad
-    (before (part s 2 (numberAt s 0)) (filesIn n (drop (fileEnd (numberAt s 0)) s)))
+    cond (ltb (length s) (2 + numberAt s 0)) bad (before (part s 2 (numberAt s 0)) (filesIn n (drop (2 + numberAt s 0) s)))
 
 -- the count, then the files
 abbrev pub rackOf : List ℕ → Split
 rackOf s = cond (ltb (length s) 2) bad (filesIn (numberAt s 0) (drop 2 s))
 
--- the same, written: files of bytes whose count and lengths fit two bytes, and their rack
-abbrev pub Fit : List (List ℕ) → Type 0
-Fit fs = Two (length fs) × All (λ (f : List ℕ). Two (length f) × Bytes f) fs
-
+-- the same, written: the rack of files
 abbrev pub filesBytes : List (List ℕ) → List ℕ
 filesBytes [] = []
 filesBytes (f ∷ fs) = pair (length f) ++ (f ++ filesBytes fs)
@@ -49,9 +40,6 @@ unlessRefused number verdict = cond (eqb number 0) (verdict .number) 0
 abbrev pub judged : ℕ → List ℕ → ℕ
 judged number log = unlessRefused number (judgeOf log)
 
-abbrev pub judgeByte : Outcome → ℕ
-judgeByte o = judged (o .number) (o .log)
-
 -- a reply: number, entries, steps, gone-round, judge's number
 abbrev pub replyBytes : ℕ → ℕ → ℕ → ℕ → ℕ → List ℕ
 replyBytes number entries steps gone verdict = (number ∷ []) ++ (pair entries ++ (pair steps ++ (pair gone ++ (verdict ∷ []))))
@@ -59,16 +47,16 @@ replyBytes number entries steps gone verdict = (number ∷ []) ++ (pair entries 
 abbrev pub replyLength : ℕ
 replyLength = 8
 
+abbrev pub judgeByte : Outcome → ℕ
+judgeByte o = judged (o .number) (o .log)
+
 abbrev pub replyTo : Outcome → List ℕ
 replyTo o = replyBytes (o .number) (o .entries) (o .steps) (o .gone) (judgeByte o)
-
-abbrev pub replyOf : ℕ → List ℕ → List ℕ
-replyOf room file = replyTo (runOf file room)
 
 -- the replies in order
 abbrev pub repliesOf : ℕ → List (List ℕ) → List ℕ
 repliesOf room [] = []
-repliesOf room (f ∷ fs) = replyOf room f ++ repliesOf room fs
+repliesOf room (f ∷ fs) = replyTo (runOf f room) ++ repliesOf room fs
 
 -- the log buffer after the files, each of which lays its log over what the one before left
 abbrev pub logAfter : ℕ → List (List ℕ) → List ℕ → List ℕ
@@ -97,3 +85,12 @@ answered fs log replies = record {
 abbrev pub answerTo : Split → List ℕ → List ℕ → Answer
 answerTo bad log replies = refusal 21 log replies
 answerTo (files fs) log replies = cond (ltb (length replies) (replyLength * length fs)) (refusal 22 log replies) (answered fs log replies)
+
+-- what `rack` promises: its number and every byte of both lent buffers, for every rack and every buffer
+pub record Gives (a : Answer) (number : ℕ) (log′ replies′ : List ℕ) : Type 0 where
+  pub numbered : number ≡ a .number
+  pub logged : log′ ≡ a .log
+  pub replied : replies′ ≡ a .replies
+
+abbrev pub Racked : List ℕ → List ℕ → List ℕ → ℕ → List ℕ → List ℕ → Type 0
+Racked rack log replies number log′ replies′ = Gives (answerTo (rackOf rack) log replies) number log′ replies′

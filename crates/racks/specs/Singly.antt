@@ -4,8 +4,7 @@ use Rattle.rules.specs.{Judge.judgeOf, declared.Verdict.Verdict}
 use Rattle.runs.specs.Promise.{Ran}
 use Rattle.racks.specs.Rack.{unlessRefused, replyBytes, repliesOf, logAfter}
 
--- a file run by `run_len`, and the front part of the buffer judged by `judge`: all that is used of them is what they promise, and that a lent buffer
--- keeps its length
+-- a file run by `run_len`, and the front part judged by `judge`: what they promise, and that a lent buffer keeps its length
 pub record Single (file log log′ reply : List ℕ) : Type 0 where
   pub written : ℕ
   pub report : List ℕ

@@ -2,8 +2,7 @@
 use Rattle.base.specs.Words.{ℕ, List, [], _∷_, _++_, map, drop, replicate, _≡_, refl}
 use Rattle.log.specs.{Decode.entryAt, Encode.logBytes}
 use Rattle.rules.specs.Contents.{before}
-use Rattle.runs.specs.Run.{runOf}
-use Rattle.runs.specs.Worked.{K1, K4, K8}
+use Rattle.runs.specs.{Run.runOf, Worked.K1, Worked.K4, Worked.K8}
 use Rattle.racks.specs.Rack.{Answer, refusal, rackOf, rackBytes, answerTo}
 
 -- the buffers as lent: a log filled with 238, replies filled with 221

@@ -4,7 +4,7 @@ use mathlib.Core.Path.{_≡_}
 use mathlib.Core.List.{List}
 use Rattle.base.proofs.Settled.{one-value}
 use Rattle.runs.specs.Promise.{Ran}
-use Rattle.racks.specs.Promise.{Racked}
+use Rattle.racks.specs.Rack.{Racked}
 use Rattle.rules.specs.Judge.{judgeOf}
 use Rattle.rules.specs.Left.{Leaves}
 

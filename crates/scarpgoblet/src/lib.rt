@@ -1,7 +1,7 @@
 // The bench, the rack, the judge and what is left, for a host program in C: include/scarpgoblet.h says what a host may count on.
 ghost use mathlib.Core.Path.{_≡_};
 ghost use Rattle.runs.specs.Promise.{Ran};
-ghost use Rattle.racks.specs.Promise.{Racked};
+ghost use Rattle.racks.specs.Rack.{Racked};
 ghost use lib.ListN.{getD};
 ghost use Rattle.rules.specs.Judge.{judgeOf};
 ghost use Rattle.rules.specs.Left.{Leaves};

@@ -7,7 +7,7 @@ use lib.ListN.{length, drop}
 use Rattle.base.specs.Bytes.{numberAt, putAt}
 use Rattle.runs.specs.Promise.{bufferOf}
 use Rattle.runs.specs.Run.{runOf}
-use Rattle.racks.specs.Rack.{Split, bad, files, rackOf, replyLength, replyOf, repliesOf, logAfter}
+use Rattle.racks.specs.Rack.{Split, bad, files, rackOf, replyLength, replyTo, repliesOf, logAfter}
 
 abbrev pub isRack : Split → Bool
 isRack bad = false
@@ -20,7 +20,7 @@ filesOf (files fs) = fs
 -- one file run: its log over the buffer, its reply at a place
 pub record RunsOne (file log replies : List ℕ) (place : ℕ) (log′ replies′ : List ℕ) : Type 0 where
   pub logged : log′ ≡ bufferOf (runOf file (length log)) log
-  pub replied : replies′ ≡ putAt place (replyOf (length log) file) replies
+  pub replied : replies′ ≡ putAt place (replyTo (runOf file (length log))) replies
 
 -- what the second pass may count on
 pub record Checked (rack replies : List ℕ) : Type 0 where
