@@ -14,9 +14,9 @@ use Rattle.base.proofs.Lists.{listOf-all}
 use Rattle.runfile.specs.declared.Call.{Call}
 use Rattle.runfile.specs.declared.Call.the-variants.{Push, Pop, Take}
 use Rattle.runfile.specs.declared.Coded.the-variants.{Right}
-use Rattle.runfile.specs.Check.{_when_, sum}
+use Rattle.runfile.specs.Check.{sum}
 use Rattle.runfile.specs.File.{RunFile, good, longestScript, callsIn, stepsIn, callPlace, stepPlace, codedAt, callIn, callAt, firstCalls}
-use Rattle.runfile.specs.File.{pushes, repeats, wrongAfter, wrongAt, recordIn, fileOf}
+use Rattle.runfile.specs.File.{pushes, wrongAfter, wrongAt, recordIn, fileOf}
 use Rattle.runfile.specs.Encode.{CallInRange, InRanges, callBytes, callsBytes, encode}
 use Rattle.runfile.proofs.SectionBytes.{bytes3, bytes4}
 use Rattle.runfile.proofs.CheckLaws.{first-all, any-all}
@@ -147,7 +147,7 @@ module _ (f : RunFile) where
         apart node e j Pop below d = refl
         apart node e j (Take q) below d = refl
 
-        by-call : (c : Call) → getD (f .calls) k Pop ≡ c → (5 when repeats (firstCalls s P k) c) ≡ 0
+        by-call : (c : Call) → getD (f .calls) k Pop ≡ c → wrongAfter (firstCalls s P k) (Right c) ≡ 0
         by-call (Push node) e =
             rw (any-all (pushes node) Pop (firstCalls s P k) (λ j below.
             let l : j < k = omega (arith, calls-length s P k) in

@@ -11,8 +11,9 @@ use Rattle.base.proofs.Cases.{either-way, if-eq, if-lt}
 use Rattle.runfile.specs.declared.Call.{Call}
 use Rattle.runfile.specs.declared.Call.the-variants.{Push, Pop, Take}
 use Rattle.runfile.specs.declared.Coded.{Coded}
+use Rattle.runfile.specs.declared.Coded.the-variants.{Right}
 use Rattle.runfile.specs.Check.{_when_, _then_, _endsBefore_, any, firstOf, outside}
-use Rattle.runfile.specs.File.{sectionCount, mostWidth, mostSize, mostProcesses, longestScript, longestSchedule, widthIn, sizeIn, sharePlace, callsBefore, stepsIn, stepPlace, RunFile, Answer, refused, good, answer, callPlace, callOf, firstCalls, repeats, wrongAfter, wrongAt, processesIn, callsIn, section1, section2, section3, section4, numberOf, recordIn, fileOf}
+use Rattle.runfile.specs.File.{sectionCount, mostWidth, mostSize, mostProcesses, longestScript, longestSchedule, widthIn, sizeIn, sharePlace, callsBefore, stepsIn, stepPlace, RunFile, Answer, refused, good, answer, callPlace, callOf, firstCalls, pushes, wrongAfter, wrongAt, processesIn, callsIn, section1, section2, section3, section4, numberOf, recordIn, fileOf}
 
 abbrev Few : ℕ → Type 0
 Few n = n ≤ 7
@@ -37,8 +38,10 @@ call-few earlier P code x =
     Q : Coded → Type 0
     Q c = Few (wrongAfter earlier c)
 
-    right : (call : Call) → Few (5 when repeats earlier call)
-    right call = when-few 5 (repeats earlier call) (omega arith)
+    right : (call : Call) → Few (wrongAfter earlier (Right call))
+    right (Push node) = when-few 5 (any (pushes node) earlier) (omega arith)
+    right Pop = omega arith
+    right (Take queue) = omega arith
 
 -- a section, as all four are: the count missing, the count wrong, contents missing, then what is inside
 section-few : (n : ℕ) (missing wrong short : Bool) (inside : ℕ) → Few n → Few inside → Few (1 when missing then n when wrong then 1 when short then inside)

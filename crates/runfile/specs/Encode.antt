@@ -2,8 +2,8 @@
 use Rattle.base.specs.Words.{ℕ, _<_, _≤_, List, [], _∷_, _++_, length, getD, _≡_}
 use Rattle.base.specs.Bytes.{pair}
 use Rattle.runfile.specs.{declared.Call.Call, Check.sum}
-use Rattle.runfile.specs.declared.Call.the-variants.{Push, Pop, Take}
 use Rattle.runfile.specs.File.{RunFile, sectionCount, mostWidth, mostSize, mostProcesses, longestScript, longestSchedule}
+use Rattle.runfile.specs.declared.Call.the-variants.{Push, Pop, Take}
 
 -- a call, of a file for so many processes
 abbrev pub CallInRange : ℕ → Call → Type 0

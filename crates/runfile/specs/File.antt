@@ -1,11 +1,9 @@
 -- The run file: what it says, where its bytes stand, and the number that refuses it.
 use Rattle.base.specs.Words.{ℕ, zero, suc, _+_, _*_, Bool, false, cond, not, ltb, leb, eqb, List, length, getD, take, drop, _≡_}
-use Rattle.base.specs.Bytes.{byteAt, part, numberAt}
-use Rattle.base.specs.Lists.{listOf}
-use Rattle.runfile.specs.declared.{Call.Call, Coded.Coded, Shape.Shape, Reading.Reading}
+use Rattle.base.specs.{Bytes.byteAt, Bytes.part, Bytes.numberAt, Lists.listOf}
+use Rattle.runfile.specs.{declared.Call.Call, declared.Coded.Coded, declared.Reading.the-variants.Refused, declared.Reading.the-variants.Good}
+use Rattle.runfile.specs.{declared.Shape.Shape, declared.Reading.Reading, declared.Coded.the-variants.Right, declared.Coded.the-variants.Wrong}
 use Rattle.runfile.specs.declared.Call.the-variants.{Push, Pop, Take}
-use Rattle.runfile.specs.declared.Coded.the-variants.{Right, Wrong}
-use Rattle.runfile.specs.declared.Reading.the-variants.{Refused, Good}
 use Rattle.runfile.specs.Check.{_when_, _then_, _endsBefore_, any, firstOf, sum, outside}
 
 -- What a run file says: W, C, each process's share of the calls (P is the number of shares), the calls, and the schedule.
@@ -125,13 +123,10 @@ pushes node (Push x) = eqb x node
 pushes node Pop = false
 pushes node (Take queue) = false
 
-abbrev pub repeats : List Call → Call → Bool
-repeats earlier (Push node) = any (pushes node) earlier
-repeats earlier Pop = false
-repeats earlier (Take queue) = false
-
 abbrev pub wrongAfter : List Call → Coded → ℕ
-wrongAfter earlier (Right call) = 5 when repeats earlier call
+wrongAfter earlier (Right (Push node)) = 5 when any (pushes node) earlier
+wrongAfter earlier (Right Pop) = 0
+wrongAfter earlier (Right (Take queue)) = 0
 wrongAfter earlier (Wrong number) = number
 
 abbrev pub wrongAt : List ℕ → ℕ → ℕ → ℕ
@@ -169,11 +164,7 @@ section4 s =
 
 -- Sections 2 to 4, and the bytes after them.
 abbrev pub laterSections : List ℕ → ℕ
-laterSections s =
-    section2 s
-    then section3 s
-    then section4 s
-    then 7 when ltb (stepsEnd s) (length s)
+laterSections s = section2 s then section3 s then section4 s then 7 when ltb (stepsEnd s) (length s)
 
 -- the number given for a file, 0 for a good one
 abbrev pub numberOf : List ℕ → ℕ

@@ -1,17 +1,8 @@
--- Files, each with the number that document 01 gives it: K9 to K12; for each number a file that gives it and a neighbour that does not; and
--- files with two faults.
+-- Files, each with its number: K9 to K12; for each number a file that gives it and a neighbour that does not; and files with two faults.
 use Rattle.base.specs.Words.{ℕ, suc, List, [], _∷_, _++_, map, take, drop, replicate, _≡_, refl}
 use Rattle.base.specs.Lists.{listOf}
-use Rattle.runfile.specs.declared.Call.the-variants.{Push, Pop, Take}
+use Rattle.runfile.specs.{declared.Call.the-variants.Push, declared.Call.the-variants.Pop, declared.Call.the-variants.Take, Encode.callsBytes}
 use Rattle.runfile.specs.File.{good, fileOf, readingOf, numberIn, laterSections, lengthAt, callsBefore, callAt, stepPlace, wrongAt}
-use Rattle.runfile.specs.Encode.{callsBytes}
-
-record Case : Type 0 where
-  number : ℕ
-  file : List ℕ
-
-abbrev gives : ℕ → List ℕ → Case
-gives number file = record { number = number; file = file }
 
 -- one process, no call, no schedule
 abbrev boxed : ℕ → ℕ → List ℕ
@@ -36,78 +27,56 @@ calling code high low = scripted 1 (code ∷ high ∷ low ∷ [])
 abbrev twice : ℕ → ℕ → ℕ → ℕ → List ℕ
 twice code x code′ y = 2 ∷ 8 ∷ 4 ∷ 2 ∷ 1 ∷ 1 ∷ 0 ∷ 2 ∷ code ∷ 0 ∷ x ∷ code′ ∷ 0 ∷ y ∷ 0 ∷ 0 ∷ []
 
-abbrev popping : ℕ → List ℕ
-popping n = scripted n (callsBytes (replicate n Pop))
-
 abbrev pushBytes : List ℕ → List ℕ
 pushBytes nodes = callsBytes (map Push nodes)
 
-abbrev cases : List Case
+-- each number with its file
+abbrev cases : List (ℕ × List ℕ)
 cases =
-    -- K9: a schedule of 4,096 steps, and of 4,097
-    gives 0 (scheduled 16 0 (replicate 4096 0)) ∷ gives 6 (scheduled 16 1 (replicate 4097 0)) ∷
-    -- K10: the empty file
-    gives 1 [] ∷
+    (0, scheduled 16 0 (replicate 4096 0)) ∷ (6, scheduled 16 1 (replicate 4097 0)) ∷  -- K9: a schedule of 4,096 steps, and of 4,097
+    (1, []) ∷  -- K10: the empty file
     -- K11: W from 0 to 16, C from 1 to 64
-    gives 0 (boxed 0 4) ∷ gives 0 (boxed 1 4) ∷ gives 0 (boxed 16 4) ∷ gives 2 (boxed 17 4) ∷
-    gives 2 (boxed 8 0) ∷ gives 0 (boxed 8 1) ∷ gives 0 (boxed 8 64) ∷ gives 2 (boxed 8 65) ∷
+    (0, boxed 0 4) ∷ (0, boxed 1 4) ∷ (0, boxed 16 4) ∷ (2, boxed 17 4) ∷ (2, boxed 8 0) ∷ (0, boxed 8 1) ∷ (0, boxed 8 64) ∷ (2, boxed 8 65) ∷
     -- K12: a script of 33 calls, and of 32
-    gives 3 (popping 33) ∷ gives 0 (popping 32) ∷
-    -- 1: a byte short, and whole
-    gives 1 (take 8 (boxed 8 4)) ∷ gives 0 (boxed 8 4) ∷
+    (3, scripted 33 (callsBytes (replicate 33 Pop))) ∷ (0, scripted 32 (callsBytes (replicate 32 Pop))) ∷
+    (1, take 8 (boxed 8 4)) ∷ (0, boxed 8 4) ∷  -- 1: a byte short, and whole
     -- 2: section 1's count; a count is looked at before what follows it is missed, and that before it is wrong
-    gives 2 (3 ∷ drop 1 (boxed 8 4)) ∷ gives 2 (3 ∷ []) ∷ gives 1 (2 ∷ []) ∷ gives 1 (2 ∷ 17 ∷ []) ∷
-    -- 3: P from 1 to 8
-    gives 3 (noCalls 0) ∷ gives 0 (noCalls 8) ∷ gives 3 (noCalls 9) ∷
-    -- 4: more calls than the lengths say
-    gives 4 (2 ∷ 8 ∷ 4 ∷ 1 ∷ 0 ∷ 0 ∷ 1 ∷ 2 ∷ 0 ∷ 0 ∷ 0 ∷ 0 ∷ []) ∷
+    (2, 3 ∷ drop 1 (boxed 8 4)) ∷ (2, 3 ∷ []) ∷ (1, 2 ∷ []) ∷ (1, 2 ∷ 17 ∷ []) ∷
+    (3, noCalls 0) ∷ (0, noCalls 8) ∷ (3, noCalls 9) ∷  -- 3: P from 1 to 8
+    (4, 2 ∷ 8 ∷ 4 ∷ 1 ∷ 0 ∷ 0 ∷ 1 ∷ 2 ∷ 0 ∷ 0 ∷ 0 ∷ 0 ∷ []) ∷  -- 4: more calls than the lengths say
     -- 4: the codes, and the arguments of codes 2 and 3
-    gives 4 (calling 0 0 0) ∷ gives 4 (calling 4 0 0) ∷
-    gives 0 (calling 2 0 0) ∷ gives 4 (calling 2 0 1) ∷ gives 4 (calling 2 1 0) ∷
-    gives 0 (calling 3 0 0) ∷ gives 4 (calling 3 0 1) ∷ gives 4 (calling 3 1 0) ∷
-    -- 5: node 0, and a node of each byte
-    gives 5 (calling 1 0 0) ∷ gives 0 (calling 1 0 1) ∷ gives 0 (calling 1 1 0) ∷ gives 0 (calling 1 255 255) ∷
+    (4, calling 0 0 0) ∷ (4, calling 4 0 0) ∷ (0, calling 2 0 0) ∷ (4, calling 2 0 1) ∷ (4, calling 2 1 0) ∷
+    (0, calling 3 0 0) ∷ (4, calling 3 0 1) ∷ (4, calling 3 1 0) ∷
+    (5, calling 1 0 0) ∷ (0, calling 1 0 1) ∷ (0, calling 1 1 0) ∷ (0, calling 1 255 255) ∷  -- 5: node 0, and a node of each byte
     -- 5: a node that another process pushed; the first call that is wrong decides
-    gives 5 (twice 1 7 1 7) ∷ gives 0 (twice 1 7 1 8) ∷ gives 0 (twice 1 7 3 1) ∷ gives 5 (twice 1 0 9 0) ∷ gives 4 (twice 9 0 1 0) ∷
+    (5, twice 1 7 1 7) ∷ (0, twice 1 7 1 8) ∷ (0, twice 1 7 3 1) ∷ (5, twice 1 0 9 0) ∷ (4, twice 9 0 1 0) ∷
     -- 5: nodes whose marks share a byte, or a bit in two bytes; and the last node twice
-    gives 0 (scripted 2 (pushBytes (8 ∷ 9 ∷ []))) ∷ gives 0 (scripted 2 (pushBytes (7 ∷ 15 ∷ []))) ∷
-    gives 0 (scripted 2 (pushBytes (255 ∷ 511 ∷ []))) ∷ gives 0 (scripted 2 (pushBytes (32767 ∷ 65535 ∷ []))) ∷
-    gives 5 (scripted 2 (pushBytes (65535 ∷ 65535 ∷ []))) ∷
+    (0, scripted 2 (pushBytes (8 ∷ 9 ∷ []))) ∷ (0, scripted 2 (pushBytes (7 ∷ 15 ∷ []))) ∷
+    (0, scripted 2 (pushBytes (255 ∷ 511 ∷ []))) ∷ (0, scripted 2 (pushBytes (32767 ∷ 65535 ∷ []))) ∷ (5, scripted 2 (pushBytes (65535 ∷ 65535 ∷ []))) ∷
     -- 5: a wrong code before the repeat, and after it
-    gives 4 (scripted 3 (pushBytes (7 ∷ []) ++ (4 ∷ 0 ∷ 0 ∷ pushBytes (7 ∷ [])))) ∷
-    gives 5 (scripted 3 (pushBytes (7 ∷ 7 ∷ []) ++ (4 ∷ 0 ∷ 0 ∷ []))) ∷
+    (4, scripted 3 (pushBytes (7 ∷ []) ++ (4 ∷ 0 ∷ 0 ∷ pushBytes (7 ∷ [])))) ∷ (5, scripted 3 (pushBytes (7 ∷ 7 ∷ []) ++ (4 ∷ 0 ∷ 0 ∷ []))) ∷
     -- 6: a process not below P; a length that is wrong, and steps that are missing
-    gives 6 (scheduled 0 1 (1 ∷ [])) ∷ gives 0 (scheduled 0 1 (0 ∷ [])) ∷ gives 6 (scheduled 16 1 []) ∷ gives 1 (scheduled 16 0 []) ∷
-    -- 7: a byte after section 4
-    gives 7 (scheduled 0 0 (0 ∷ [])) ∷ gives 0 (scheduled 0 0 []) ∷
-    []
-
--- Files with two faults each: the earlier in the order of the sections decides, and in a section the earlier of its tests.
-abbrev orderCases : List Case
-orderCases =
+    (6, scheduled 0 1 (1 ∷ [])) ∷ (0, scheduled 0 1 (0 ∷ [])) ∷ (6, scheduled 16 1 []) ∷ (1, scheduled 16 0 []) ∷
+    (7, scheduled 0 0 (0 ∷ [])) ∷ (0, scheduled 0 0 []) ∷  -- 7: a byte after section 4
+    -- Two faults each: the earlier in the order of the sections decides, and in a section the earlier of its tests.
     -- P is 9, and the call count is 1 where the lengths say none
-    gives 3 (2 ∷ 8 ∷ 4 ∷ 9 ∷ (replicate 9 0 ++ (0 ∷ 1 ∷ 0 ∷ 0 ∷ []))) ∷
-    -- a script length of 33, and the second length missing
-    gives 1 (2 ∷ 8 ∷ 4 ∷ 2 ∷ 33 ∷ []) ∷
+    (3, 2 ∷ 8 ∷ 4 ∷ 9 ∷ (replicate 9 0 ++ (0 ∷ 1 ∷ 0 ∷ 0 ∷ []))) ∷
+    (1, 2 ∷ 8 ∷ 4 ∷ 2 ∷ 33 ∷ []) ∷  -- a script length of 33, and the second length missing
     -- a script of 33 calls, and a call of code 4; and a call count of 1
-    gives 3 (scripted 33 (4 ∷ 0 ∷ 0 ∷ callsBytes (replicate 32 Pop))) ∷ gives 3 (2 ∷ 8 ∷ 4 ∷ 1 ∷ 33 ∷ 0 ∷ 1 ∷ 2 ∷ 0 ∷ 0 ∷ 0 ∷ 0 ∷ []) ∷
-    -- a call count of 2 for a length of 1, and the second call missing
-    gives 4 (2 ∷ 8 ∷ 4 ∷ 1 ∷ 1 ∷ 0 ∷ 2 ∷ 2 ∷ 0 ∷ 0 ∷ []) ∷
+    (3, scripted 33 (4 ∷ 0 ∷ 0 ∷ callsBytes (replicate 32 Pop))) ∷ (3, 2 ∷ 8 ∷ 4 ∷ 1 ∷ 33 ∷ 0 ∷ 1 ∷ 2 ∷ 0 ∷ 0 ∷ 0 ∷ 0 ∷ []) ∷
+    (4, 2 ∷ 8 ∷ 4 ∷ 1 ∷ 1 ∷ 0 ∷ 2 ∷ 2 ∷ 0 ∷ 0 ∷ []) ∷  -- a call count of 2 for a length of 1, and the second call missing
     -- a call of code 4, and the second call missing; and the schedule's length missing
-    gives 1 (2 ∷ 8 ∷ 4 ∷ 1 ∷ 2 ∷ 0 ∷ 2 ∷ 4 ∷ 0 ∷ 0 ∷ []) ∷ gives 4 (2 ∷ 8 ∷ 4 ∷ 1 ∷ 1 ∷ 0 ∷ 1 ∷ 4 ∷ 0 ∷ 0 ∷ []) ∷
-    -- a call of node 0, and a schedule of 4,097 steps
-    gives 5 (2 ∷ 8 ∷ 4 ∷ 1 ∷ 1 ∷ 0 ∷ 1 ∷ 1 ∷ 0 ∷ 0 ∷ 16 ∷ 1 ∷ []) ∷
+    (1, 2 ∷ 8 ∷ 4 ∷ 1 ∷ 2 ∷ 0 ∷ 2 ∷ 4 ∷ 0 ∷ 0 ∷ []) ∷ (4, 2 ∷ 8 ∷ 4 ∷ 1 ∷ 1 ∷ 0 ∷ 1 ∷ 4 ∷ 0 ∷ 0 ∷ []) ∷
+    (5, 2 ∷ 8 ∷ 4 ∷ 1 ∷ 1 ∷ 0 ∷ 1 ∷ 1 ∷ 0 ∷ 0 ∷ 16 ∷ 1 ∷ []) ∷  -- a call of node 0, and a schedule of 4,097 steps
     -- a step of process 1 of 1, and a step missing; and a byte after section 4
-    gives 1 (scheduled 0 2 (1 ∷ [])) ∷ gives 6 (scheduled 0 1 (1 ∷ 0 ∷ [])) ∷
-    []
+    (1, scheduled 0 2 (1 ∷ [])) ∷ (6, scheduled 0 1 (1 ∷ 0 ∷ [])) ∷ []
 
 -- computed on the definition that `read` is proved to follow
-worked : map (λ (c : Case). numberIn (readingOf (fileOf (c .file)))) (cases ++ orderCases) ≡ map (λ (c : Case). c .number) (cases ++ orderCases)
+worked : map (λ c. numberIn (readingOf (fileOf (c .1)))) cases ≡ map (λ c. c .0) cases
 unfolding fileOf
 worked = refl
 
--- Eight processes, 256 pushes, no schedule: the number of the last call, where it repeats the first and where it does not. The whole files are run by
--- the tests, since computing every call of them takes seconds.
+-- Eight processes, 256 pushes, no schedule: the number of the last call, where it repeats the first and where it does not; the tests run such files.
 abbrev pushing : List ℕ → List ℕ
 pushing nodes = 2 ∷ 8 ∷ 4 ∷ 8 ∷ (replicate 8 32 ++ (1 ∷ 0 ∷ (pushBytes nodes ++ (0 ∷ 0 ∷ []))))
 

@@ -1,8 +1,7 @@
 -- The tag at its edges, and where stages stand, computed.
 use Rattle.base.specs.Words.{ℕ, true, false, [], _∷_, map, _≡_, refl}
-use Rattle.word.specs.Tag.{nextTag, isTag}
+use Rattle.word.specs.{Tag.nextTag, Tag.isTag, declared.Word.Word}
 use Rattle.word.specs.Stages.{rowNumber, firstLoaded, isIdle, atT1, atB2, pastB2, popsSlot}
-use Rattle.word.specs.declared.Word.{Word}
 use Rattle.word.specs.declared.Stage.the-variants.{Idle, T1, T2, T3, B2, B3, B7}
 
 -- a control word: bottom, top, tag
