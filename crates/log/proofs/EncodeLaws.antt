@@ -10,8 +10,16 @@ use Rattle.base.specs.Lists.{listOf, All}
 use Rattle.base.proofs.Bytes.{rejoined, high, low, no-bytes, one-more, both-bytes, pair-bytes}
 use Rattle.base.proofs.Lists.{listOf-length, listOf-take, listOf-all}
 use Rattle.log.specs.declared.Entry.{Entry}
-use Rattle.log.specs.Decode.{logLength, entryLength, firstEntry, entryAt, noEntry, processesOf, slotsOf, entryCountOf}
-use Rattle.log.specs.Encode.{Log, mostEntries, headBytes, entryBytes, entriesBytes, logBytes, decoded, Whole, EntryFits, InRange}
+use Rattle.log.specs.Decode.{entryLength, logLength, sectionCountOf, firstEntry, entryAt, noEntry, processesOf, slotsOf, entryCountOf}
+use Rattle.log.specs.Encode.{Log, sectionCount, mostEntries, headBytes, entryBytes, entriesBytes, logBytes, EntryFits, InRange}
+
+-- the log that some bytes say, and whether they are whole: they have its length and section 1's count
+unfoldable pub decoded : List ℕ → Log
+decoded bytes = record { P = processesOf bytes; C = slotsOf bytes; entries = listOf (entryCountOf bytes) (entryAt bytes) }
+
+pub record Whole (bytes : List ℕ) : Type 0 where
+  pub counted : sectionCountOf bytes ≡ sectionCount
+  pub sized : length bytes ≡ logLength (entryCountOf bytes)
 
 -- decoding what was encoded
 entry-decode-encode : (e : Entry) (rest : List ℕ) → firstEntry (entryBytes e ++ rest) ≡ e
@@ -121,7 +129,7 @@ module _ (bytes : List ℕ) (ok : Bytes bytes) where
   -- what is read from bytes fits them
   entry-fits : (i : ℕ) → EntryFits (entryAt bytes i)
   unfolding entryAt
-  entry-fits i = record { process = one 0; queue = one 1; kind = one 2; result = one 3; node = two 4; start = two 6; end = two 8; moment = two 10 }
+  entry-fits i = record { bytes = (one 0, one 1, one 2, one 3); pairs = (two 4, two 6, two 8, two 10) }
     where
       one : (k : ℕ) → Byte (byteAt (drop (logLength i) bytes) k)
       one k = rw getD-drop (ok (logLength i + k))
@@ -133,10 +141,8 @@ module _ (bytes : List ℕ) (ok : Bytes bytes) where
       → InRange (decoded bytes)
   unfolding decoded
   in-range p q c d n = record {
-    P-low = p;
-    P-high = q;
-    C-low = c;
-    C-high = d;
+    processes = (p, q);
+    slots = (c, d);
     few = omega (arith, listOf-length (entryCountOf bytes) (entryAt bytes));
     fit = fits (entryCountOf bytes) (entryAt bytes) entry-fits;
   }
@@ -151,12 +157,12 @@ entry-bytes e h =
     let d = pair (e .end) ++ pair (e .moment) in
     let c = pair (e .start) ++ d in
     let b = pair (e .node) ++ c in
-    let ended = both-bytes (pair (e .end)) (pair (e .moment)) (pair-bytes (e .end) (h .end)) (pair-bytes (e .moment) (h .moment)) in
-    let started = both-bytes (pair (e .start)) d (pair-bytes (e .start) (h .start)) ended in
-    let named = both-bytes (pair (e .node)) c (pair-bytes (e .node) (h .node)) started in
-    one-more (e .process) (e .queue ∷ e .kind ∷ e .result ∷ b) (h .process)
-    (one-more (e .queue) (e .kind ∷ e .result ∷ b) (h .queue)
-    (one-more (e .kind) (e .result ∷ b) (h .kind) (one-more (e .result) b (h .result) named)))
+    let ended = both-bytes (pair (e .end)) (pair (e .moment)) (pair-bytes (e .end) (h .pairs .2)) (pair-bytes (e .moment) (h .pairs .3)) in
+    let started = both-bytes (pair (e .start)) d (pair-bytes (e .start) (h .pairs .1)) ended in
+    let named = both-bytes (pair (e .node)) c (pair-bytes (e .node) (h .pairs .0)) started in
+    one-more (e .process) (e .queue ∷ e .kind ∷ e .result ∷ b) (h .bytes .0)
+    (one-more (e .queue) (e .kind ∷ e .result ∷ b) (h .bytes .1)
+    (one-more (e .kind) (e .result ∷ b) (h .bytes .2) (one-more (e .result) b (h .bytes .3) named)))
 
 entries-bytes : (es : List Entry) → All EntryFits es → Bytes (entriesBytes es)
 entries-bytes [] a = no-bytes
@@ -168,8 +174,8 @@ bytes-encoded l h =
     let n = length (l .entries) in
     both-bytes (headBytes (l .P) (l .C) n) (entriesBytes (l .entries))
     (one-more 2 (l .P ∷ l .C ∷ pair n) (omega arith)
-    (one-more (l .P) (l .C ∷ pair n) (omega (arith, h .P-high))
-    (one-more (l .C) (pair n) (omega (arith, h .C-high)) (pair-bytes n (omega (arith, h .few))))))
+    (one-more (l .P) (l .C ∷ pair n) (omega (arith, h .processes .1))
+    (one-more (l .C) (pair n) (omega (arith, h .slots .1)) (pair-bytes n (omega (arith, h .few))))))
     (entries-bytes (l .entries) (h .fit))
 
 pub whole-encoded : (l : Log) → Whole (logBytes l)

@@ -1,9 +1,7 @@
 -- A log, and its bytes in document 01's order: section 1, the number of entries, the entries.
-use Rattle.base.specs.Words.{ℕ, _≤_, List, [], _∷_, _++_, length, _≡_}
-use Rattle.base.specs.Bytes.{Byte, Two, pair}
-use Rattle.base.specs.Lists.{listOf, All}
+use Rattle.base.specs.Words.{ℕ, _≤_, List, [], _∷_, _++_, length}
+use Rattle.base.specs.{Bytes.Byte, Bytes.Two, Bytes.pair, Lists.All}
 use Rattle.log.specs.declared.Entry.{Entry}
-use Rattle.log.specs.Decode.{logLength, sectionCountOf, processesOf, slotsOf, entryCountOf, entryAt}
 
 -- P processes, C slots, and the entries
 pub record Log : Type 0 where
@@ -33,30 +31,14 @@ entriesBytes (e ∷ es) = entryBytes e ++ entriesBytes es
 unfoldable pub logBytes : Log → List ℕ
 logBytes l = headBytes (l .P) (l .C) (length (l .entries)) ++ entriesBytes (l .entries)
 
--- the log that some bytes say, and whether they are whole: they have its length and section 1's count
-unfoldable pub decoded : List ℕ → Log
-decoded bytes = record { P = processesOf bytes; C = slotsOf bytes; entries = listOf (entryCountOf bytes) (entryAt bytes) }
-
-pub record Whole (bytes : List ℕ) : Type 0 where
-  pub counted : sectionCountOf bytes ≡ sectionCount
-  pub sized : length bytes ≡ logLength (entryCountOf bytes)
-
 -- the fields fit their bytes
 pub record EntryFits (e : Entry) : Type 0 where
-  pub process : Byte (e .process)
-  pub queue : Byte (e .queue)
-  pub kind : Byte (e .kind)
-  pub result : Byte (e .result)
-  pub node : Two (e .node)
-  pub start : Two (e .start)
-  pub end : Two (e .end)
-  pub moment : Two (e .moment)
+  pub bytes : Byte (e .process) × Byte (e .queue) × Byte (e .kind) × Byte (e .result)
+  pub pairs : Two (e .node) × Two (e .start) × Two (e .end) × Two (e .moment)
 
 -- P and C in the run file's ranges, at most 256 entries, and all fields fit
 pub record InRange (l : Log) : Type 0 where
-  pub P-low : 1 ≤ l .P
-  pub P-high : l .P ≤ 8
-  pub C-low : 1 ≤ l .C
-  pub C-high : l .C ≤ 64
+  pub processes : (1 ≤ l .P) × (l .P ≤ 8)
+  pub slots : (1 ≤ l .C) × (l .C ≤ 64)
   pub few : length (l .entries) ≤ mostEntries
   pub fit : All EntryFits (l .entries)

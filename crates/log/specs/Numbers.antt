@@ -1,6 +1,6 @@
 -- The log's numbers as document 01, "The log", gives them, and document 02 in C-15, each once, and which calls have a moment.
-use Rattle.base.specs.Words.{ℕ, Bool, true, false, cond, _&&_, _||_, eqb}
-use Rattle.log.specs.declared.{Entry.Entry, What.What}
+use Rattle.base.specs.Words.{ℕ, Bool, cond, not, _&&_, _||_, eqb}
+use Rattle.log.specs.{declared.Entry.Entry, declared.What.What}
 use Rattle.log.specs.declared.What.the-variants.{Pushed, Full, BottomNode, BottomNil, TopNode, TopNil, TopLost}
 
 -- kinds
@@ -53,15 +53,6 @@ resultOf TopNode = done
 resultOf TopNil = nil
 resultOf TopLost = lost
 
-abbrev pub bearsMoment : What → Bool
-bearsMoment Pushed = true
-bearsMoment Full = false
-bearsMoment BottomNode = true
-bearsMoment BottomNil = true
-bearsMoment TopNode = true
-bearsMoment TopNil = false
-bearsMoment TopLost = false
-
 -- what a kind and a result say happened; rule 1 refuses all pairs but the seven of `kindOf` and `resultOf`
 abbrev pub whatOf : ℕ → ℕ → What
 whatOf kind result =
@@ -78,3 +69,7 @@ same a b = eqb (kindOf a) (kindOf b) && eqb (resultOf a) (resultOf b)
 -- a top pop with NIL, at T2 or at T4
 abbrev pub isTopNil : What → Bool
 isTopNil w = same TopNil w || same TopLost w
+
+-- top pop NIL and FULL have no moment
+abbrev pub bearsMoment : What → Bool
+bearsMoment w = not (isTopNil w || same Full w)

@@ -15,8 +15,8 @@ use Rattle.log.specs.declared.What.the-variants.{Pushed, Full, BottomNode, Bott
 use Rattle.log.specs.Numbers.{bearsMoment, what, same, isTopNil}
 use Rattle.log.proofs.NumbersLaws.{same-of, same-true}
 use Rattle.log.specs.Decode.{sectionCountOf, processesOf, slotsOf, entryCountOf, entryAt}
-use Rattle.log.specs.Encode.{Log, sectionCount, InRange, logBytes, decoded}
-use Rattle.log.proofs.EncodeLaws.{entry-decoded, processes-decoded, slots-decoded, entry-count-decoded, whole-encoded, encode-decode, in-range}
+use Rattle.log.specs.Encode.{Log, sectionCount, InRange, logBytes}
+use Rattle.log.proofs.EncodeLaws.{decoded, entry-decoded, processes-decoded, slots-decoded, entry-count-decoded, whole-encoded, encode-decode, in-range}
 use Rattle.rules.specs.declared.Verdict.{Verdict}
 use Rattle.rules.specs.Search.{any}
 use Rattle.rules.specs.Contents.{bears, on, before}
@@ -233,10 +233,10 @@ accepted-judged l r g =
     let w = whole-encoded l in
     let head : headOf (logBytes l) ≡ true =
     and-i (and-i (and-i (and-i (and-i (eq-eqb (sectionCountOf (logBytes l)) sectionCount (w .counted))
-    (le-leb 1 (processesOf (logBytes l)) (omega (arith, processes-decoded l, r .P-low))))
-    (le-leb (processesOf (logBytes l)) 8 (omega (arith, processes-decoded l, r .P-high))))
-    (le-leb 1 (slotsOf (logBytes l)) (omega (arith, slots-decoded l, r .C-low))))
-    (le-leb (slotsOf (logBytes l)) 64 (omega (arith, slots-decoded l, r .C-high))))
+    (le-leb 1 (processesOf (logBytes l)) (omega (arith, processes-decoded l, r .processes .0))))
+    (le-leb (processesOf (logBytes l)) 8 (omega (arith, processes-decoded l, r .processes .1))))
+    (le-leb 1 (slotsOf (logBytes l)) (omega (arith, slots-decoded l, r .slots .0))))
+    (le-leb (slotsOf (logBytes l)) 64 (omega (arith, slots-decoded l, r .slots .1))))
     (le-leb (entryCountOf (logBytes l)) 256 (omega (arith, entry-count-decoded l, r .few))) in
     sym (whole (logBytes l) (says 0 0) (omega (arith, w .sized)) head (omega (arith, w .sized)) (omega (arith, w .sized))
     (sym (accepted-says (entryOf (l .entries)) (length (l .entries)) (l .P) (l .C) g)

@@ -127,8 +127,10 @@ module _ (P : ℕ) (e : Entry) where
       record {
         process = ltb-true (e .process) P (and-0 (ltb (e .process) P) (ltb (e .queue) P) h2);
         queue = ltb-true (e .queue) P (and-1 (ltb (e .process) P) (ltb (e .queue) P) h2);
-        kind-from = leb-true push (e .kind) (and-0 (leb push (e .kind)) (leb (e .kind) topPop) kind);
-        kind-to = leb-true (e .kind) topPop (and-1 (leb push (e .kind)) (leb (e .kind) topPop) kind);
+        kind = (
+          leb-true push (e .kind) (and-0 (leb push (e .kind)) (leb (e .kind) topPop) kind),
+          leb-true (e .kind) topPop (and-1 (leb push (e .kind)) (leb (e .kind) topPop) kind),
+        );
         result = leb-true (e .result) mostResult (and-1 to-kind (leb (e .result) mostResult) h4);
         own = own-to (and-1 to-result (onOwnQueue e) h5);
         full-push = λ r. eqb-true (e .kind) push (if-so (eqb (e .result) full) (eqb (e .kind) push) (and-1 to-own (fullForPush e) h6)
@@ -138,8 +140,10 @@ module _ (P : ℕ) (e : Entry) where
             (eq-eqb (e .kind) push k);
         lost-top = λ r. eqb-true (e .kind) topPop (if-so (eqb (e .result) lost) (eqb (e .kind) topPop) (and-1 to-nil (lostForTopPop e) h8)
             (eq-eqb (e .result) lost r));
-        node-nil = λ v. nil-to (truth-to (eqb (e .node) 0) (isNil (e .result)) node (eq-eqb (e .node) 0 v));
-        nil-node = λ r. eqb-true (e .node) 0 (truth-from (eqb (e .node) 0) (isNil (e .result)) node (nil-from r));
+        node = (
+          λ v. nil-to (truth-to (eqb (e .node) 0) (isNil (e .result)) node (eq-eqb (e .node) 0 v)),
+          λ r. eqb-true (e .node) 0 (truth-from (eqb (e .node) 0) (isNil (e .result)) node (nil-from r)),
+        );
         start = leb-true (e .start) (e .end) (and-1 to-node (leb (e .start) (e .end)) h10);
         end = leb-true (e .end) lastEnd (and-1 to-start (leb (e .end) lastEnd) h);
       }
@@ -148,7 +152,7 @@ module _ (P : ℕ) (e : Entry) where
   fields-back r =
       and-i (and-i (and-i (and-i (and-i (and-i (and-i (and-i (and-i (and-i
       (lt-ltb (e .process) P (r .process)) (lt-ltb (e .queue) P (r .queue)))
-      (and-i (le-leb push (e .kind) (r .kind-from)) (le-leb (e .kind) topPop (r .kind-to))))
+      (and-i (le-leb push (e .kind) (r .kind .0)) (le-leb (e .kind) topPop (r .kind .1))))
       (le-leb (e .result) mostResult (r .result)))
       (own-from (r .own)))
       (so-if (eqb (e .result) full) (eqb (e .kind) push) (λ t. eq-eqb (e .kind) push (r .full-push (eqb-true (e .result) full t)))))
@@ -156,7 +160,7 @@ module _ (P : ℕ) (e : Entry) where
       (λ k. r .nil-pop (eqb-true (e .result) nil t) (eqb-true (e .kind) push k)))))
       (so-if (eqb (e .result) lost) (eqb (e .kind) topPop) (λ t. eq-eqb (e .kind) topPop (r .lost-top (eqb-true (e .result) lost t)))))
       (same-truth (eqb (e .node) 0) (isNil (e .result))
-      (λ t. nil-from (r .node-nil (eqb-true (e .node) 0 t))) (λ t. eq-eqb (e .node) 0 (r .nil-node (nil-to t)))))
+      (λ t. nil-from (r .node .0 (eqb-true (e .node) 0 t))) (λ t. eq-eqb (e .node) 0 (r .node .1 (nil-to t)))))
       (le-leb (e .start) (e .end) (r .start)))
       (le-leb (e .end) lastEnd (r .end))
 
@@ -165,7 +169,7 @@ module _ (P : ℕ) (e : Entry) where
   not-full r k d l = let x : e .result ≡ full → ⊥ = λ z. k (r .full-push z) in omega (arith, r .result)
 
   top-kind : Rule1 P e → (e .kind ≡ push → ⊥) → (e .kind ≡ bottomPop → ⊥) → topPop ≡ e .kind
-  top-kind r a b = omega (arith, r .kind-from, r .kind-to)
+  top-kind r a b = omega (arith, r .kind .0, r .kind .1)
 
   abbrev Right : What → Type 0
   Right w = (kindOf w ≡ e .kind) × (resultOf w ≡ e .result)

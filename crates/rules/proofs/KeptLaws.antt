@@ -30,15 +30,13 @@ module _ (f : ℕ → Entry) (n : ℕ) where
       record {
         process = omega (arith, r .process);
         queue = omega (arith, r .queue);
-        kind-from = r .kind-from;
-        kind-to = r .kind-to;
+        kind = r .kind;
         result = r .result;
         own = r .own;
         full-push = r .full-push;
         nil-pop = r .nil-pop;
         lost-top = r .lost-top;
-        node-nil = r .node-nil;
-        nil-node = r .nil-node;
+        node = r .node;
         start = r .start;
         end = r .end;
       }

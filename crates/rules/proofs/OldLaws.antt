@@ -15,7 +15,8 @@ use Rattle.log.specs.Decode.{headLength, logLength}
 use Rattle.log.specs.Encode.{Log, sectionCount, logBytes}
 use Rattle.log.proofs.EncodeLaws.{processes-decoded, slots-decoded, entry-count-decoded, length-log, whole-encoded}
 use Rattle.rules.specs.declared.Verdict.{Verdict}
-use Rattle.rules.specs.Search.{first, any, anyFrom, lowest}
+use Rattle.rules.specs.Search.{first, any, lowest}
+use Rattle.rules.proofs.SearchLaws.{anyFrom}
 use Rattle.rules.specs.Contents.{bears, eventAt, before, applied}
 use Rattle.rules.specs.Rules.{inCall, isEmpty, fresh, lawful, takesTopmost, hasCause, since, keeps1, breaks1, breaks3, breaks4, breaks5, breaks6}
 use Rattle.rules.specs.Judge.{says, first2, orElse, rulesOf, headRight, judgeOf}

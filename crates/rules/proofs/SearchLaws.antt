@@ -7,7 +7,7 @@ use native.Mathlib.Omega.{arith}
 use native.Mathlib.Decide.{ℕ-discrete}
 use borrow.Author.Tests.{lt-ltb, le-ltb, ltb-true, ltb-false}
 use lib.Dec.{ltb}
-use Rattle.rules.specs.Search.{first, any, anyFrom, lowest}
+use Rattle.rules.specs.Search.{first, any, lowest}
 use Rattle.base.proofs.Bools.{contra, not-so, or-l, or-r, or-e, by-both}
 
 -- the first
@@ -86,6 +86,10 @@ none p n h = omega (arith, first-none p 0 n (λ j a b. h j (omega arith)))
 
 pub any-no : (p : ℕ → Bool) (n : ℕ) → ((j : ℕ) → j < n → p j ≡ false) → any p n ≡ false
 any-no p n h = le-ltb (first p 0 n) n (none p n h)
+
+-- whether one of a, a + 1, .. b passes
+abbrev pub anyFrom : (ℕ → Bool) → ℕ → ℕ → Bool
+anyFrom p a b = any (λ k. p (a + k)) (suc b - a)
 
 -- from a to b
 pub from-i : (p : ℕ → Bool) (a b x : ℕ) → a ≤ x → x ≤ b → p x ≡ true → anyFrom p a b ≡ true

@@ -1,12 +1,9 @@
--- The rules read aloud: when a log is accepted. This is the statement to compare with document 01, "What the judge accepts";
--- `judged-0` in proofs/AcceptedLaws.antt shows that the judge's number is 0 exactly for the bytes of such a log.
+-- The rules read aloud, to compare with document 01, "What the judge accepts"; the judge's number is 0 exactly for such a log (`judged-0`).
 use Rattle.base.specs.Words.{ℕ, suc, _+_, _*_, _<_, _≤_, true, false, cond, List, [], _∷_, _++_, length, getD, _⊎_, _↔_, _≡_}
-use Rattle.log.specs.{declared.Entry.Entry, declared.What.What, Decode.firstEntry}
+use Rattle.base.specs.{Bytes.Bytes, Lists.In, Lists.All, Lists.Pairs}
+use Rattle.log.specs.{declared.Entry.Entry, declared.What.What, Decode.firstEntry, Encode.Log, Encode.InRange, Encode.logBytes}
 use Rattle.log.specs.declared.What.the-variants.{Pushed, Full, BottomNode, BottomNil, TopNode, TopNil, TopLost}
 use Rattle.log.specs.Numbers.{push, bottomPop, topPop, nil, full, lost, mostResult, noMoment, what, isTopNil}
-use Rattle.base.specs.Bytes.{Bytes}
-use Rattle.base.specs.Lists.{In, All, Pairs}
-use Rattle.log.specs.Encode.{Log, InRange, logBytes}
 use Rattle.rules.specs.{Contents.bears, Contents.before, Rules.lastEnd, Judge.judgeOf}
 
 -- NIL is 0, and 3 at T4
@@ -19,36 +16,29 @@ pub record Rule1 (P : ℕ) (e : Entry) : Type 0 where
   pub process : e .process < P
   pub queue : e .queue < P
   -- kind 1 to 3, result 0 to 3;
-  pub kind-from : push ≤ e .kind
-  pub kind-to : e .kind ≤ topPop
+  pub kind : (push ≤ e .kind) × (e .kind ≤ topPop)
   pub result : e .result ≤ mostResult
-  -- a push or bottom pop on its own queue;
-  pub own : (e .kind ≡ push) ⊎ (e .kind ≡ bottomPop) → e .process ≡ e .queue
+  pub own : (e .kind ≡ push) ⊎ (e .kind ≡ bottomPop) → e .process ≡ e .queue  -- a push or bottom pop on its own queue;
   -- result 2 for a push only, 0 for pops only, 3 for a top pop only;
   pub full-push : e .result ≡ full → e .kind ≡ push
   pub nil-pop : e .result ≡ nil → e .kind ≡ push → ⊥
   pub lost-top : e .result ≡ lost → e .kind ≡ topPop
-  -- node 0 exactly for NIL;
-  pub node-nil : e .node ≡ 0 → IsNil (e .result)
-  pub nil-node : IsNil (e .result) → e .node ≡ 0
+  pub node : (e .node ≡ 0) ↔ IsNil (e .result)  -- node 0 exactly for NIL;
   -- start ≤ end ≤ 32,766.
   pub start : e .start ≤ e .end
   pub end : e .end ≤ lastEnd
 
 -- Rule 2, of an entry d before e in the file.
 pub record Rule2 (d e : Entry) : Type 0 where
-  -- Ends rise;
-  pub ends-rise : d .end < e .end
-  -- a process's call starts after its previous call's end.
-  pub starts-after : d .process ≡ e .process → d .end < e .start
+  pub ends-rise : d .end < e .end  -- Ends rise;
+  pub starts-after : d .process ≡ e .process → d .end < e .start  -- a process's call starts after its previous call's end.
 
 -- Rule 3.
 pub record Rule3 (e : Entry) : Type 0 where
   -- A moment stands where the list has one, from 2 × start to 2 × end + 1 (at most 65,533 by rule 1),
   pub from : bears e ≡ true → 2 * e .start ≤ e .moment
   pub to : bears e ≡ true → e .moment ≤ 2 * e .end + 1
-  -- and 65,535 stands elsewhere.
-  pub none : bears e ≡ false → e .moment ≡ noMoment
+  pub none : bears e ≡ false → e .moment ≡ noMoment  -- and 65,535 stands elsewhere.
 
 -- l lists the numbers of which P holds, each once, greater ones first
 pub record Lists (P : ℕ → Type 0) (l : List ℕ) : Type 0 where
@@ -106,10 +96,8 @@ module _ (f : ℕ → Entry) (n : ℕ) where
 
   -- A log f of n entries, P processes and C slots is accepted:
   pub record Accepted (P C : ℕ) : Type 0 where
-    -- Rule 1. Fields,
-    pub rule1 : (j : ℕ) → j < n → Rule1 P (f j)
-    -- Rule 2, of every entry and every later one,
-    pub rule2 : (i j : ℕ) → i < j → j < n → Rule2 (f i) (f j)
+    pub rule1 : (j : ℕ) → j < n → Rule1 P (f j)  -- Rule 1. Fields,
+    pub rule2 : (i j : ℕ) → i < j → j < n → Rule2 (f i) (f j)  -- Rule 2, of every entry and every later one,
     -- Rule 3. Moments, and all moments differ,
     pub rule3 : (j : ℕ) → j < n → Rule3 (f j)
     pub differ : (i j : ℕ) → i < j → j < n → bears (f i) ≡ true → bears (f j) ≡ true → f i .moment ≡ f j .moment → ⊥
@@ -117,8 +105,7 @@ module _ (f : ℕ → Entry) (n : ℕ) where
     pub rule4 : (j : ℕ) → j < n → Rule4 (f j) (before f n (f j .queue) (f j .moment)) (what (f j))
     -- Rule 5. A top pop with NIL, at T2 or at T4, has its cause,
     pub rule5 : (j : ℕ) → j < n → isTopNil (what (f j)) ≡ true → EmptyIn (f j) ⊎ RemovedIn (f j)
-    -- Rule 6. FULL, by place in the log.
-    pub rule6 : (j : ℕ) → j < n → what (f j) ≡ Full → Rule6 (λ i. i) C j
+    pub rule6 : (j : ℕ) → j < n → what (f j) ≡ Full → Rule6 (λ i. i) C j  -- Rule 6. FULL, by place in the log.
 
 -- entry i of a list; past the end, as bytes past the end read, all numbers are 0
 abbrev pub entryOf : List Entry → ℕ → Entry
@@ -138,8 +125,7 @@ pub record AcceptedBytes (bytes : List ℕ) : Type 0 where
 abbrev pub JudgedZero : Type 0
 JudgedZero = (bytes : List ℕ) → Bytes bytes → (judgeOf bytes .number ≡ 0) ↔ AcceptedBytes bytes
 
--- By moments rule 6 is the same: all its calls are the owner's own, and rules 1 to 3 put them in the same order. A FULL bears no moment;
--- before it is before its start.
+-- By moments rule 6 is the same: its calls are the owner's own, in the same order by rules 1 to 3. Before a FULL is before its start.
 abbrev pub time : Entry → ℕ
 time e = cond (bears e) (e .moment) (2 * e .start)
 

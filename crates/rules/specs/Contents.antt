@@ -1,5 +1,4 @@
--- Which nodes each queue holds at each instant, told by the calls' moments alone. A log is given as f, from an entry's
--- index to the entry, and the number n of its entries. Contents go by recursion on the instant, so nothing is sorted.
+-- Which nodes each queue holds at each instant, by the calls' moments alone. A log is f, from an entry's index to the entry, with n entries.
 use Rattle.base.specs.Words.{ℕ, zero, suc, Bool, cond, _&&_, ltb, eqb, List, [], _∷_, _++_}
 use Rattle.log.specs.{declared.Entry.Entry, declared.What.What, Numbers.bearsMoment, Numbers.what}
 use Rattle.log.specs.declared.What.the-variants.{Pushed, Full, BottomNode, BottomNil, TopNode, TopNil, TopLost}

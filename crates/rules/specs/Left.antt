@@ -1,5 +1,4 @@
--- C-17. What is left on the table: the nodes that a log leaves in each queue, how often each was pushed and returned, and what follows for every accepted
--- log. A log is f and n, as in Contents.antt.
+-- C-17. The nodes that a log leaves in each queue, how often each was pushed and returned, and what follows for accepted logs. A log is f and n.
 use Rattle.base.specs.Words.{ℕ, zero, suc, _+_, _-_, _<_, _≤_, Bool, true, cond, _&&_, _||_, ltb, leb, eqb, List, [], _∷_, _++_, length, replicate, _≡_}
 use Rattle.log.specs.{declared.Entry.Entry, Numbers.what, Numbers.same, Decode.entryCountOf, Decode.entryAt, Encode.mostEntries}
 use Rattle.log.specs.declared.What.the-variants.{Pushed, BottomNode, TopNode}

@@ -1,7 +1,6 @@
 -- Old logs, with 0 for NIL at T4 too (C-15): they are judged as before.
 use Rattle.base.specs.Words.{ℕ, length, _⊎_, _↔_, _≡_}
-use Rattle.log.specs.{declared.Entry.Entry, Encode.Log, Encode.logBytes}
-use Rattle.log.specs.Numbers.{topPop, nil, lost}
+use Rattle.log.specs.{declared.Entry.Entry, Encode.Log, Encode.logBytes, Numbers.topPop, Numbers.nil, Numbers.lost}
 use Rattle.rules.specs.{Judge.judgeOf, Accepted.entryOf, Accepted.AcceptedLog}
 
 -- e with this result

@@ -1,11 +1,10 @@
--- Document 01, "What the judge accepts": for each rule by itself, when entry j of a log breaks it. The log is f, from an
--- entry's index to the entry, with n entries, P processes and C slots. A rule is asked only of logs that keep the earlier ones.
-use Rattle.base.specs.Words.{ℕ, zero, suc, _+_, _*_, Bool, true, false, cond, not, _&&_, _||_, Bool·beq, ltb, leb, eqb, List, [], _∷_, length}
-use Rattle.log.specs.declared.{Entry.Entry, What.What}
+-- Document 01, "What the judge accepts": when entry j of a log breaks each rule. The log is f, from an entry's index to the entry, with n entries,
+-- P processes and C slots. A rule is asked only of logs that keep the earlier ones.
+use Rattle.base.specs.Words.{ℕ, zero, suc, _+_, _-_, _*_, Bool, true, false, cond, not, _&&_, _||_, Bool·beq, ltb, leb, eqb, List, [], _∷_, length}
+use Rattle.log.specs.{declared.Entry.Entry, declared.What.What}
 use Rattle.log.specs.declared.What.the-variants.{Pushed, Full, BottomNode, BottomNil, TopNode, TopNil, TopLost}
 use Rattle.log.specs.Numbers.{push, bottomPop, topPop, nil, full, lost, mostResult, noMoment, what, same, isTopNil}
-use Rattle.rules.specs.Search.{any, anyFrom}
-use Rattle.rules.specs.Contents.{bears, on, before}
+use Rattle.rules.specs.{Search.any, Contents.bears, Contents.on, Contents.before}
 
 -- RULE 1. Fields:
 abbrev pub lastEnd : ℕ
@@ -57,9 +56,8 @@ bearsAt m d = bears d && eqb (d .moment) m
 abbrev pub breaks3 : (ℕ → Entry) → ℕ → Bool
 breaks3 f j = not (momentRight (f j)) || bears (f j) && any (λ i. bearsAt (f j .moment) (f i)) j
 
--- RULE 4. Calls with a moment, taken by rising moment from empty queues, are lawful: a push adds at the bottom a node that
--- no earlier push on any queue added; a bottom pop gives the bottom node, or NIL exactly when empty; a top pop gives the
--- top node.
+-- RULE 4. Calls with a moment, taken by rising moment from empty queues, are lawful: a push adds at the bottom a node that no earlier push on any
+-- queue added; a bottom pop gives the bottom node, or NIL exactly when empty; a top pop gives the top node.
 abbrev pub isEmpty : List ℕ → Bool
 isEmpty [] = true
 isEmpty (x ∷ c) = false
@@ -98,19 +96,13 @@ breaks4 f n j = bears (f j) && not (lawfulAt f n (f j))
 
 -- RULE 5. A top pop with NIL has, from moment 2 × start to 2 × end + 1, an instant at which its queue is empty (after all
 -- moments up to it), or a removal of the topmost node by another process.
--- the queue is empty at an instant x from a to b
+-- the queue is empty at an instant a, a + 1, .. b
 abbrev pub emptyWithin : (ℕ → Entry) → ℕ → ℕ → ℕ → ℕ → Bool
-emptyWithin f n q a b = anyFrom (λ x. isEmpty (before f n q (suc x))) a b
+emptyWithin f n q a b = any (λ k. isEmpty (before f n q (suc (a + k)))) (suc b - a)
 
 -- a removal of the topmost node from c: by a pop at the top, or at the bottom where there is one node
 abbrev pub takesTopmost : What → List ℕ → Bool
-takesTopmost Pushed c = false
-takesTopmost Full c = false
-takesTopmost BottomNode c = eqb (length c) 1
-takesTopmost BottomNil c = false
-takesTopmost TopNode c = true
-takesTopmost TopNil c = false
-takesTopmost TopLost c = false
+takesTopmost w c = same TopNode w || same BottomNode w && eqb (length c) 1
 
 abbrev pub removes : (ℕ → Entry) → ℕ → Entry → Entry → Bool
 removes f n e d =

@@ -1,5 +1,5 @@
 -- Searches over indices: the first that passes a test, whether one does, the lowest key of those that do, and how many do.
-use Rattle.base.specs.Words.{ℕ, zero, suc, _+_, _-_, Bool, cond, _&&_, ltb}
+use Rattle.base.specs.Words.{ℕ, zero, suc, _+_, Bool, cond, _&&_, ltb}
 
 -- the first of i, i + 1, .. (k of them) that passes, or i + k; by the `let` no later one is looked at
 abbrev pub first : (ℕ → Bool) → ℕ → ℕ → ℕ
@@ -9,10 +9,6 @@ first p i (suc k) = let later = first p (suc i) k in cond (p i) i later
 -- whether one below n passes
 abbrev pub any : (ℕ → Bool) → ℕ → Bool
 any p n = ltb (first p 0 n) n
-
--- whether one of a, a + 1, .. b passes
-abbrev pub anyFrom : (ℕ → Bool) → ℕ → ℕ → Bool
-anyFrom p a b = any (λ k. p (a + k)) (suc b - a)
 
 -- the lowest key of those below n that pass, or 65,536, which no number of two bytes reaches
 abbrev pub lowest : (ℕ → Bool) → (ℕ → ℕ) → ℕ → ℕ

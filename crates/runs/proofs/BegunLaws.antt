@@ -32,7 +32,7 @@ use Rattle.runs.proofs.ClosingLaws.{lowest-busy, all-closed-idle}
 use Rattle.runs.specs.Moment.{queueOf, pushedNode, isTake, ended, Ended, Nothing, ends}
 use Rattle.runs.specs.Run.{lowest, closed, closingStep}
 use Rattle.runs.proofs.Induction.{nextOf, endedBy, recordAfter, turn-keeps, closed-keeps}
-use Rattle.runs.specs.Shown.{entriesOf, callIn, callsBegun, EachBegunOnce}
+use Rattle.runs.specs.Shown.{entriesOf, callIn, callsBegun, BegunOnce}
 use Rattle.runs.specs.State.{Process, State, nobody, scripted, start, queueAt, processAt}
 use Rattle.runs.specs.Turn.{firstStage, begun, ready, entriesIn, act, turn, turning}
 use Rattle.base.proofs.Cases.{either-way}
@@ -427,7 +427,7 @@ no-entry P (e ∷ l) h (suc k) d lt = no-entry P l (λ p ge. later p (eqb (e .pr
     later p false none = none
 
 -- every call that was begun is in the log once
-pub begun-once : EachBegunOnce
+pub begun-once : (f : RunFile) → InRanges f → BegunOnce f (closed f)
 begun-once f ok = record {
   told = λ p lt. told-all f ok p (omega (arith, ok .processes));
   place = λ p lt. omega (arith, follows p lt .from);

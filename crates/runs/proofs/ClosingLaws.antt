@@ -13,12 +13,11 @@ use Rattle.queue.specs.Step.{loaded, loadedSlot, stageAfter}
 use Rattle.queue.proofs.StepLaws.{lowers, returned}
 use Rattle.word.specs.declared.Stage.{Stage}
 use Rattle.word.specs.declared.Stage.the-variants.{Idle, P1, P2, P3, T1, T2, T3, T4, B1, B2, B3, B4, B5, B6, B7}
-use Rattle.runfile.specs.File.{RunFile}
+use Rattle.runfile.specs.{Encode.InRanges, File.RunFile}
 use Rattle.runfile.specs.declared.Call.{Call}
 use Rattle.runs.specs.Moment.{queueOf}
 use Rattle.runs.specs.Run.{lowest, closingSteps, closed, closingStep, played}
 use Rattle.runs.proofs.Induction.{nextOf, recordAfter, turn-keeps, Closes, play-keeps, close-keeps, closed-keeps}
-use Rattle.runs.specs.Shown.{StepsMost, AllClosed}
 use Rattle.runs.specs.State.{Process, State, fresh, nobody, scripted, start, queueAt, processAt}
 use Rattle.runs.specs.Turn.{act, turn, turning}
 use Rattle.base.proofs.Cases.{either-way}
@@ -194,12 +193,12 @@ pub closing-steps : (f : RunFile) → closed f .bench .steps ≤ length (f .sche
 closing-steps f = let c = numbered f in omega (arith, c .few, c .holds)
 
 -- a run has at most 4,096 + 48 steps
-pub steps-most : StepsMost
+pub steps-most : (f : RunFile) → InRanges f → closed f .bench .steps ≤ 4096 + closingSteps
 steps-most f h = omega (arith, closing-steps f, h .steps)
 
 -- after the closing no process is half-done
 pub all-closed : (f : RunFile) → lowest (closed f .bench .processes) ≡ 8
 all-closed f = none-half-done (closed f) (spent f)
 
-pub all-closed-idle : AllClosed
+pub all-closed-idle : (f : RunFile) (p : ℕ) → isIdle (processAt (closed f .bench) p .stage) ≡ true
 all-closed-idle f = all-idle (closed f .bench .processes) (omega (arith, all-closed f, spent f .holds .eight))

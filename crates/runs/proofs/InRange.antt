@@ -1,7 +1,7 @@
 -- No step of a run of a good file is out of range, and no slot at or above C is touched. Gone-round runs are included.
-use Prim.Native.Nat.{ℕ, _≤_}
+use Prim.Native.Nat.{ℕ, _<_, _≤_}
 use mathlib.Core.Path.{_≡_, refl, sym, subst, _∙_}
-use mathlib.Core.Bool.{true}
+use mathlib.Core.Bool.{true, false}
 use mathlib.Core.List.{List, []}
 use native.Mathlib.Omega.{arith}
 use lib.Dec.{ltb}
@@ -17,15 +17,24 @@ use Rattle.runfile.specs.File.{RunFile, Answer, refused, good, fileOf}
 use Rattle.runfile.proofs.NumberLaws.{refused-few}
 use Rattle.runfile.proofs.RangeLaws.{good-ranges}
 use Rattle.runs.specs.Moment.{queueOf}
-use Rattle.runs.specs.Run.{Outcome, refusal, finished, roomFor, closed, outcome, runOf}
-use Rattle.runs.specs.Shown.{Touches, BelowC, EveryStepInRange, Never9}
-use Rattle.runs.specs.State.{Process, queueAt, processAt}
+use Rattle.log.specs.Decode.{logLength}
+use Rattle.runs.specs.Run.{Outcome, refusal, finished, closed, outcome, runOf}
+use Rattle.word.specs.Stages.{isIdle}
+use Rattle.queue.specs.declared.Load.the-variants as load
+use Rattle.queue.specs.declared.Store.the-variants as store
+use Rattle.runs.specs.State.{Process, State, queueAt, processAt}
+use Rattle.runs.specs.Turn.{stepping}
 use Rattle.runs.proofs.Sound.{placed-in-range}
 use Rattle.runs.specs.inner.Sound.{slotsAt}
 use Rattle.runs.proofs.Scripts.{sizesOf, fit, ready-case}
-use Rattle.runs.proofs.States.{sound, each-scripted}
+use Rattle.runs.proofs.States.{WhoeverSteps, sound, each-scripted}
 
-pub below-C : BelowC
+-- whoever steps next loads and stores slots below C only
+pub record Touches (f : RunFile) (s : State) (p : ℕ) (r : Process) : Type 0 where
+  pub loads : (at : ℕ) → loadedSlot (r .stage) ≡ load.Slot at → at < f .size
+  pub stores : (at node : ℕ) → isIdle (r .stage) ≡ false → stepping (f .width) (f .size) p r s .store ≡ store.Slot at node → at < f .size
+
+pub below-C : WhoeverSteps Touches
 below-C f h s o p lt =
     let v = sound f h s o in
     ready-case f h (Touches f s p) s v (each-scripted f h s o) p lt
@@ -39,7 +48,8 @@ below-C f h s o p lt =
           (loaded (slotsAt s (queueOf p (r .call))) (loadedSlot (r .stage))) (r .stage) (k .placed .stage));
     })
 
-pub every-step-in-range : EveryStepInRange
+pub every-step-in-range : WhoeverSteps (λ f s p r. let q : ℕ = queueOf p (r .call) in
+    inRange (f .width) (f .size) (length (getD (s .slots) q [])) (queueAt (s .bench) q .word) (r .stage) ≡ true)
 every-step-in-range f h s o p lt =
     let v = sound f h s o in
     ready-case f h In s v (each-scripted f h s o) p lt (λ e. placed-in-range (sizesOf f) (fit f h) s v p (processAt (s .bench) p) (v .each p lt))
@@ -60,9 +70,4 @@ run-cases Q file b room refuses runs = by (fileOf file) refl
     by (refused n) e = let k = refused-few file n e in refuses n (k .0) (omega (arith, k .1))
     by (good f) e =
         let h : InRanges f = good-ranges file f b e in
-        either-way Q (ltb room (roomFor f)) (λ _. refuses 8 (omega arith) (omega arith)) (λ _. runs f e h)
-
--- no file gives number 9
-pub never-9 : Never9
-never-9 file b room =
-    run-cases (λ (o : Outcome). o .number ≡ 9 → ⊥) file b room (λ n low high e. omega arith) (λ f e h z. let k : _≡_ {A = ℕ} 0 9 = z in omega arith)
+        either-way Q (ltb room (logLength (length (f .calls)))) (λ _. refuses 8 (omega arith) (omega arith)) (λ _. runs f e h)

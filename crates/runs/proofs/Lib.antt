@@ -19,3 +19,4 @@ pub mod LostLaws
 pub mod OwnLaws
 -- Of the promise of `run_len`: the front part of the buffer.
 pub mod PromiseLaws
+pub mod Shown

@@ -19,12 +19,12 @@ use Rattle.queue.specs.declared.Stepped.{Stepped}
 use Rattle.queue.proofs.StepLaws.{failed-T4}
 use Rattle.base.proofs.Cases.{either-way, ever}
 use Rattle.runs.specs.Moment.{queueOf, isTake, ended}
-use Rattle.runs.specs.Shown.{FailsT4, Writes3, Lost3}
+use Rattle.runs.specs.Shown.{FailsT4, Writes3}
 use Rattle.runs.specs.State.{Process, State, queueAt, processAt}
 use Rattle.runs.specs.Turn.{stepping, ending}
 use Rattle.runs.specs.inner.Sound.{slotsAt}
 use Rattle.runs.proofs.Scripts.{ready-case}
-use Rattle.runs.proofs.States.{sound, each-scripted}
+use Rattle.runs.proofs.States.{WhoeverSteps, sound, each-scripted}
 
 -- what an answer that is written with 3 is
 written-lost : (p n : ℕ) (r owner : Process) (t : ℕ) (x : Next) → Writes3 (ended p n r owner t x) → x ≡ Lost
@@ -89,7 +89,8 @@ module _ (W C p : ℕ) (r : Process) (s : State) where
       subst Three (sym (ap (λ (z : Stage). rowOf W C w v z .next) (h .4)
       ∙ ap (λ (o : Stepped). o .next) (failed-T4 W C w v (h .0) (h .1) (h .2) (h .3) (h .5)))) refl
 
-pub lost-3 : Lost3
+pub lost-3 : WhoeverSteps (λ f s p r. Writes3 (ending p r (s .bench) (stepping (f .width) (f .size) p r s .next))
+    ↔ FailsT4 (queueAt (s .bench) (queueOf p (r .call)) .word) (r .stage))
 lost-3 f h s o p lt =
     let v = sound f h s o in
     ready-case f h (λ (r : Process). Writes3 (ending p r (s .bench) (stepping (f .width) (f .size) p r s .next))

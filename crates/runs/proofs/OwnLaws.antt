@@ -27,7 +27,7 @@ use Rattle.runfile.specs.declared.Call.{Call}
 use Rattle.runfile.specs.declared.Call.the-variants.{Push, Pop, Take}
 use Rattle.runs.specs.Moment.{queueOf, isTake}
 use Rattle.runs.specs.Run.{lowest, closingStep, closingSteps, closed}
-use Rattle.runs.specs.Shown.{whoSteps, ownSteps, ownMost, OwnStepsMost}
+use Rattle.runs.specs.Shown.{whoSteps, ownSteps, ownMost}
 use Rattle.runs.specs.State.{Process, State, nobody, queueAt, processAt, start}
 use Rattle.runs.specs.States.{scheduled, closing, StateOf, at-schedule, at-closing}
 use Rattle.runs.specs.Turn.{firstStage, processAfter, entriesIn, ending, act, idle}
@@ -231,6 +231,7 @@ module _ (f : RunFile) where
         (closer f h s v (each-scripted f h s i) (ltb-true _ 8 e) .0))
         (λ e. own-closing k (omega arith)))
 
-pub own-steps-most : OwnStepsMost
+pub own-steps-most : (f : RunFile) → InRanges f
+    → All (λ (e : Entry). ownSteps f (e .process) (e .start) (suc (e .end)) ≤ ownMost (e .kind)) (closed f .log)
 unfolding closed
 own-steps-most f h = own-closing f h closingSteps (omega arith) .told

@@ -19,11 +19,15 @@ use Rattle.runs.proofs.Induction.{play-next, closes, close-next}
 use Rattle.runs.specs.Run.{play, lowest, close, closingSteps, closed}
 use Rattle.runs.specs.States.{scheduled, closing, StateOf, at-schedule, at-closing}
 use Rattle.runs.specs.State.{Process, State, processAt, start}
-use Rattle.runs.specs.Turn.{act, turn}
+use Rattle.runs.specs.Turn.{act, turn, turning}
 use Rattle.runs.proofs.Sound.{Steps, act-is, goes-on}
 use Rattle.runs.specs.inner.Sound.{Sound}
 use Rattle.runs.proofs.Reached.{Reached, begins, idles, acts, sound as any-sound}
 use Rattle.runs.proofs.Scripts.{sizesOf, fit, Scripted, Each, turn-case, each-act, each-start, start-fresh}
+
+-- what holds in every state of every run of a good file of whoever steps next: of each process below P, with the record with which it makes its turn
+abbrev pub WhoeverSteps : (RunFile → State → ℕ → Process → Type 0) → Type 0
+WhoeverSteps Holds = (f : RunFile) → InRanges f → (s : State) → StateOf f s → (p : ℕ) → p < length (f .shares) → Holds f s p (turning (f .calls) p s)
 
 -- one more step of the schedule
 pub scheduled-0 : (f : RunFile) → scheduled f 0 ≡ start f

@@ -1,13 +1,11 @@
 -- The entry of a finished call, with its moment: document 01, "The log".
 use Rattle.base.specs.Words.{ℕ, _+_, _*_, Bool, true, false, cond, not, _&&_, eqb}
-use Rattle.log.specs.Numbers.{kindOf, resultOf, noMoment}
-use Rattle.log.specs.declared.{Entry.Entry, What.What}
+use Rattle.log.specs.{Numbers.kindOf, Numbers.resultOf, Numbers.noMoment, declared.Entry.Entry, declared.What.What}
 use Rattle.log.specs.declared.What.the-variants as what
 use Rattle.word.specs.Stages.{pastB2, popsSlot}
 use Rattle.queue.specs.declared.Next.{Next}
 use Rattle.queue.specs.declared.Next.the-variants.{Going, Done, Node, Nil, Lost, Full}
-use Rattle.runfile.specs.declared.Call.{Call}
-use Rattle.runfile.specs.declared.Call.the-variants.{Push, Pop, Take}
+use Rattle.runfile.specs.{declared.Call.Call, declared.Call.the-variants.Push, declared.Call.the-variants.Pop, declared.Call.the-variants.Take}
 use Rattle.runs.specs.State.{Process}
 
 -- the queue of a call of process p
@@ -35,8 +33,7 @@ entry p n r w node moment =
 abbrev pub nilMoment : ℕ → Process → ℕ
 nilMoment n r = cond (pastB2 (r .stage)) (2 * r .b2 + 1) (2 * n)
 
--- top pop with a node: 2 × T4, unless the queue's owner is then in a bottom pop past B2 with b−1 = t. Then it is 2 × that B2. T4
--- gives a node only where the top is still t
+-- top pop with a node: 2 × T4, unless the queue's owner is then in a bottom pop past B2 with b−1 = t. Then it is 2 × that B2. The top is t still.
 abbrev pub takeMoment : ℕ → Process → ℕ → ℕ
 takeMoment n owner t = cond (popsSlot (owner .stage) t) (2 * owner .b2) (2 * n)
 

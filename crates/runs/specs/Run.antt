@@ -3,8 +3,7 @@ use Rattle.base.specs.Words.{ℕ, zero, suc, _+_, _*_, _/_, _%_, cond, ltb, Lis
 use Rattle.base.specs.Lists.{listOf}
 use Rattle.log.specs.{Decode.logLength, Encode.logBytes}
 use Rattle.word.specs.{Stages.isIdle, declared.Word.Word}
-use Rattle.runfile.specs.File.{RunFile, mostSize, Answer, refused, good, fileOf}
-use Rattle.runfile.specs.declared.Call.{Call}
+use Rattle.runfile.specs.{File.RunFile, File.mostSize, File.Answer, File.refused, File.good, File.fileOf, declared.Call.Call}
 use Rattle.runs.specs.State.{Bench, Process, State, queueCount, start, queueAt, processAt}
 use Rattle.runs.specs.Turn.{act, turn}
 
@@ -45,8 +44,7 @@ unfoldable pub closed : RunFile → State
 unfolding play close
 closed f = close (f .width) (f .size) closingSteps (played f)
 
--- the final table has 67 numbers for each of eight queues, bottom, top, tag and 64 slots; 0 stands at and above C, and for queues at
--- or above P
+-- the final table has 67 numbers for each of eight queues, bottom, top, tag and 64 slots; 0 stands at and above C, and for queues from P on
 abbrev pub tableRowLength : ℕ
 tableRowLength = 3 + mostSize
 
@@ -86,13 +84,10 @@ finished f s = record {
 }
 
 -- the log buffer has room for all calls of the file, or the run is refused with 8
-abbrev pub roomFor : RunFile → ℕ
-roomFor f = logLength (length (f .calls))
-
 unfoldable pub outcome : ℕ → Answer → Outcome
 unfolding closed
 outcome room (refused n) = refusal n
-outcome room (good f) = cond (ltb room (roomFor f)) (refusal 8) (finished f (closed f))
+outcome room (good f) = cond (ltb room (logLength (length (f .calls)))) (refusal 8) (finished f (closed f))
 
 unfoldable pub runOf : List ℕ → ℕ → Outcome
 unfolding outcome fileOf

@@ -2,10 +2,8 @@
 use Rattle.base.specs.Words.{ℕ, suc, List, [], getD, take, replicate}
 use Rattle.base.specs.Lists.{listOf}
 use Rattle.log.specs.declared.Entry.{Entry}
-use Rattle.word.specs.declared.{Word.Word, Stage.Stage}
-use Rattle.word.specs.declared.Stage.the-variants.{Idle}
-use Rattle.runfile.specs.{declared.Call.Call, Check.sum, File.RunFile, File.mostProcesses}
-use Rattle.runfile.specs.declared.Call.the-variants.{Push}
+use Rattle.word.specs.{declared.Word.Word, declared.Stage.Stage, declared.Stage.the-variants.Idle}
+use Rattle.runfile.specs.{declared.Call.Call, Check.sum, File.RunFile, File.mostProcesses, declared.Call.the-variants.Push}
 
 -- a run has eight queues and eight processes, whatever P is
 abbrev pub queueCount : ℕ
@@ -16,8 +14,7 @@ pub record Queue : Type 0 where
   pub word : Word
   pub resets : ℕ
 
--- a process: where it stands in its call, the call, which call of the file is its next and where its script stops; and of the call its start, its
--- step B2, and the resets that its queue had at T1
+-- a process: its stage, its call, the next call of the file and where its script stops; of the call its start, its B2, and its queue's resets at T1
 pub record Process : Type 0 where
   pub stage : Stage
   pub call : Call

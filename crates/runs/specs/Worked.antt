@@ -1,11 +1,9 @@
--- The worked runs K1 to K8 and K13, K4 with no tag, and one of three queues, computed on the definitions: bytes in; entries, counts and the first queue's
--- row of the table out.
+-- K1 to K8 and K13, K4 with no tag, and a run of three queues, computed: bytes in; entries, counts and the first queue's row of the table out.
 use Rattle.base.specs.Words.{ℕ, suc, _-_, _*_, List, [], _∷_, _++_, map, length, getD, take, drop, replicate, _≡_, refl}
-use Rattle.log.specs.{Decode.logLength, Encode.logBytes, declared.Entry.Entry}
+use Rattle.log.specs.{Decode.logLength, Encode.logBytes, Worked.line, declared.Entry.Entry}
 use Rattle.runfile.specs.{Encode.encode, File.recordIn, Worked.k1, declared.Call.Call}
 use Rattle.runfile.specs.declared.Call.the-variants.{Push, Pop, Take}
-use Rattle.runs.specs.Run.{Outcome, tableRowLength, runOf}
-use Rattle.runs.specs.Shown.{ownSteps}
+use Rattle.runs.specs.{Run.Outcome, Run.tableRowLength, Run.runOf, Shown.ownSteps}
 
 pub record Case : Type 0 where
   pub file : List ℕ
@@ -22,11 +20,6 @@ case file steps gone row entries = record { file = file; steps = steps; gone = g
 abbrev fileOf : ℕ → ℕ → List ℕ → List Call → List ℕ → List ℕ
 fileOf W C shares calls schedule = encode (record { width = W; size = C; shares = shares; calls = calls; schedule = schedule })
 
--- process, queue, kind, result, node, start, end, moment
-abbrev line : ℕ → ℕ → ℕ → ℕ → ℕ → ℕ → ℕ → ℕ → Entry
-line process queue kind result node start end moment =
-    record { process = process; queue = queue; kind = kind; result = result; node = node; start = start; end = end; moment = moment }
-
 abbrev pub K1 : Case
 K1 = case k1 13 0 (0 ∷ 0 ∷ 1 ∷ 7 ∷ 0 ∷ 0 ∷ 0 ∷ []) (
     line 0 0 1 1 7 0 2 4 ∷
@@ -37,21 +30,13 @@ K1 = case k1 13 0 (0 ∷ 0 ∷ 1 ∷ 7 ∷ 0 ∷ 0 ∷ 0 ∷ []) (
 -- K1's calls, with another schedule
 abbrev pub K2 : Case
 K2 = case (take 17 k1 ++ (0 ∷ 13 ∷ 0 ∷ 0 ∷ 0 ∷ 1 ∷ 1 ∷ 1 ∷ 0 ∷ 0 ∷ 0 ∷ 0 ∷ 0 ∷ 0 ∷ 1 ∷ [])) 13 0 (0 ∷ 0 ∷ 1 ∷ 7 ∷ 0 ∷ 0 ∷ 0 ∷ []) (
-    line 0 0 1 1 7 0 2 4 ∷
-    line 0 0 2 1 7 6 11 14 ∷
-    line 1 0 3 3 0 3 12 65535 ∷
-    [])
-
-abbrev fileK3 : List ℕ
-fileK3 = fileOf 8 4 (2 ∷ 1 ∷ 1 ∷ []) (Push 5 ∷ Push 6 ∷ Take 0 ∷ Take 0 ∷ []) (replicate 6 0 ++ (1 ∷ 1 ∷ 1 ∷ 2 ∷ 2 ∷ 2 ∷ 2 ∷ 1 ∷ []))
+    line 0 0 1 1 7 0 2 4 ∷ line 0 0 2 1 7 6 11 14 ∷ line 1 0 3 3 0 3 12 65535 ∷ [])
 
 abbrev pub K3 : Case
-K3 = case fileK3 14 0 (2 ∷ 1 ∷ 0 ∷ 5 ∷ 6 ∷ 0 ∷ 0 ∷ []) (
-    line 0 0 1 1 5 0 2 4 ∷
-    line 0 0 1 1 6 3 5 10 ∷
-    line 2 0 3 1 5 9 12 24 ∷
-    line 1 0 3 3 0 6 13 65535 ∷
-    [])
+K3 = case
+    (fileOf 8 4 (2 ∷ 1 ∷ 1 ∷ []) (Push 5 ∷ Push 6 ∷ Take 0 ∷ Take 0 ∷ []) (replicate 6 0 ++ (1 ∷ 1 ∷ 1 ∷ 2 ∷ 2 ∷ 2 ∷ 2 ∷ 1 ∷ [])))
+    14 0 (2 ∷ 1 ∷ 0 ∷ 5 ∷ 6 ∷ 0 ∷ 0 ∷ [])
+    (line 0 0 1 1 5 0 2 4 ∷ line 0 0 1 1 6 3 5 10 ∷ line 2 0 3 1 5 9 12 24 ∷ line 1 0 3 3 0 6 13 65535 ∷ [])
 
 -- K4's file, with a tag of so many bits, and its entries up to that of the top pop
 abbrev fileK4 : ℕ → List ℕ
@@ -60,13 +45,7 @@ fileK4 W =
 
 abbrev entriesK4 : Entry → List Entry
 entriesK4 last =
-    line 0 0 1 1 1 0 2 4 ∷
-    line 0 0 2 1 1 6 11 14 ∷
-    line 0 0 1 1 2 12 14 28 ∷
-    line 0 0 2 1 2 15 20 32 ∷
-    line 0 0 1 1 3 21 23 46 ∷
-    last ∷
-    []
+    line 0 0 1 1 1 0 2 4 ∷ line 0 0 2 1 1 6 11 14 ∷ line 0 0 1 1 2 12 14 28 ∷ line 0 0 2 1 2 15 20 32 ∷ line 0 0 1 1 3 21 23 46 ∷ last ∷ []
 
 abbrev pub K4 : Case
 K4 = case (fileK4 1) 25 1 (1 ∷ 1 ∷ 0 ∷ 3 ∷ 0 ∷ 0 ∷ 0 ∷ []) (entriesK4 (line 1 0 3 1 1 3 24 48))
@@ -79,10 +58,8 @@ abbrev pub K5 : Case
 K5 = case (fileK4 2) 25 0 (1 ∷ 0 ∷ 2 ∷ 3 ∷ 0 ∷ 0 ∷ 0 ∷ []) (entriesK4 (line 1 0 3 3 0 3 24 65535))
 
 abbrev pub K6 : Case
-K6 = case (fileOf 8 1 (2 ∷ []) (Push 7 ∷ Push 8 ∷ []) (replicate 4 0)) 4 0 (1 ∷ 0 ∷ 0 ∷ 7 ∷ 0 ∷ 0 ∷ 0 ∷ []) (
-    line 0 0 1 1 7 0 2 4 ∷
-    line 0 0 1 2 8 3 3 65535 ∷
-    [])
+K6 = case (fileOf 8 1 (2 ∷ []) (Push 7 ∷ Push 8 ∷ []) (replicate 4 0)) 4 0 (1 ∷ 0 ∷ 0 ∷ 7 ∷ 0 ∷ 0 ∷ 0 ∷ [])
+    (line 0 0 1 1 7 0 2 4 ∷ line 0 0 1 2 8 3 3 65535 ∷ [])
 
 abbrev pub K7 : Case
 K7 = case (fileOf 8 4 (1 ∷ []) (Pop ∷ []) (0 ∷ [])) 1 0 (replicate 7 0) (line 0 0 2 0 0 0 0 0 ∷ [])
@@ -95,31 +72,13 @@ runs = K1 ∷ K2 ∷ K3 ∷ K4 ∷ K4-no-tag ∷ K5 ∷ K6 ∷ K7 ∷ K8 ∷ []
 
 -- W = 16, C = 3, P = 3. Process 0 pushes 1, 2 and 3, pops 3 and pushes 4; process 1 pushes 11, 12 and 13, finds no room for 14, and takes 1 from queue 0;
 -- process 2 pushes 21 and pops it, which is a reset, pops nothing, pushes 22, and takes 11 from queue 1, with T4 in the closing
-abbrev fileThree : List ℕ
-fileThree = fileOf 16 3 (5 ∷ 5 ∷ 5 ∷ []) (
-    Push 1 ∷ Push 2 ∷ Push 3 ∷ Pop ∷ Push 4 ∷
-    Push 11 ∷ Push 12 ∷ Push 13 ∷ Push 14 ∷ Take 0 ∷
-    Push 21 ∷ Pop ∷ Pop ∷ Push 22 ∷ Take 1 ∷
-    []) (replicate 16 0 ++ (replicate 14 1 ++ replicate 16 2))
-
 abbrev pub threeQueues : Case
-threeQueues = case fileThree 47 0 (3 ∷ 1 ∷ 0 ∷ 1 ∷ 2 ∷ 4 ∷ 0 ∷ []) (
-    line 0 0 1 1 1 0 2 4 ∷
-    line 0 0 1 1 2 3 5 10 ∷
-    line 0 0 1 1 3 6 8 16 ∷
-    line 0 0 2 1 3 9 12 20 ∷
-    line 0 0 1 1 4 13 15 30 ∷
-    line 1 1 1 1 11 16 18 36 ∷
-    line 1 1 1 1 12 19 21 42 ∷
-    line 1 1 1 1 13 22 24 48 ∷
-    line 1 1 1 2 14 25 25 65535 ∷
-    line 1 0 3 1 1 26 29 58 ∷
-    line 2 2 1 1 21 30 32 64 ∷
-    line 2 2 2 1 21 33 38 68 ∷
-    line 2 2 2 0 0 39 39 78 ∷
-    line 2 2 1 1 22 40 42 84 ∷
-    line 2 1 3 1 11 43 46 92 ∷
-    [])
+threeQueues = case (fileOf 16 3 (5 ∷ 5 ∷ 5 ∷ []) (
+    Push 1 ∷ Push 2 ∷ Push 3 ∷ Pop ∷ Push 4 ∷ Push 11 ∷ Push 12 ∷ Push 13 ∷ Push 14 ∷ Take 0 ∷ Push 21 ∷ Pop ∷ Pop ∷ Push 22 ∷ Take 1 ∷ [])
+    (replicate 16 0 ++ (replicate 14 1 ++ replicate 16 2))) 47 0 (3 ∷ 1 ∷ 0 ∷ 1 ∷ 2 ∷ 4 ∷ 0 ∷ []) (
+    line 0 0 1 1 1 0 2 4 ∷ line 0 0 1 1 2 3 5 10 ∷ line 0 0 1 1 3 6 8 16 ∷ line 0 0 2 1 3 9 12 20 ∷ line 0 0 1 1 4 13 15 30 ∷
+    line 1 1 1 1 11 16 18 36 ∷ line 1 1 1 1 12 19 21 42 ∷ line 1 1 1 1 13 22 24 48 ∷ line 1 1 1 2 14 25 25 65535 ∷ line 1 0 3 1 1 26 29 58 ∷
+    line 2 2 1 1 21 30 32 64 ∷ line 2 2 2 1 21 33 38 68 ∷ line 2 2 2 0 0 39 39 78 ∷ line 2 2 1 1 22 40 42 84 ∷ line 2 1 3 1 11 43 46 92 ∷ [])
 
 -- a buffer that is just long enough for all calls of the file, which all end in these runs
 abbrev pub room : Case → ℕ
@@ -134,22 +93,14 @@ expected k =
     (0 ∷ length (k .entries) ∷ k .steps ∷ k .gone ∷ []) ∷ k .row
     ∷ logBytes (record { P = getD (k .file) 3 0; C = getD (k .file) 2 0; entries = k .entries }) ∷ []
 
-pub worked : map (λ (k : Case). shown (runOf (k .file) (room k))) (threeQueues ∷ runs) ≡ map expected (threeQueues ∷ runs)
+pub worked :
+    (map (λ (k : Case). shown (runOf (k .file) (room k))) (threeQueues ∷ runs) ≡ map expected (threeQueues ∷ runs))
+    -- bottom, top, tag and the slots of each of the three queues
+    × (map (λ (q : ℕ). take 6 (drop (tableRowLength * q) (runOf (threeQueues .file) (room threeQueues) .table))) (0 ∷ 1 ∷ 2 ∷ [])
+    ≡ (3 ∷ 1 ∷ 0 ∷ 1 ∷ 2 ∷ 4 ∷ []) ∷ (3 ∷ 1 ∷ 0 ∷ 11 ∷ 12 ∷ 13 ∷ []) ∷ (1 ∷ 0 ∷ 1 ∷ 22 ∷ 0 ∷ 0 ∷ []) ∷ [])
+    -- the own steps of the three calls of K1: P1 to P3, T1 to T4, and B1 to B5 with B7, the last four in the closing
+    × (map (λ (e : Entry). ownSteps (recordIn k1) (e .process) (e .start) (suc (e .end))) (K1 .entries) ≡ 3 ∷ 4 ∷ 6 ∷ [])
+    -- K13: a buffer one byte short
+    × (map (λ (k : Case). shown (runOf (k .file) (room k - 1))) runs ≡ map (λ (k : Case). (8 ∷ 0 ∷ 0 ∷ 0 ∷ []) ∷ replicate 7 0 ∷ [] ∷ []) runs)
 unfolding runOf logBytes
-worked = refl
-
--- bottom, top, tag and the slots of each of the three queues
-pub three-rows : map (λ (q : ℕ). take 6 (drop (tableRowLength * q) (runOf fileThree (room threeQueues) .table))) (0 ∷ 1 ∷ 2 ∷ [])
-    ≡ (3 ∷ 1 ∷ 0 ∷ 1 ∷ 2 ∷ 4 ∷ []) ∷ (3 ∷ 1 ∷ 0 ∷ 11 ∷ 12 ∷ 13 ∷ []) ∷ (1 ∷ 0 ∷ 1 ∷ 22 ∷ 0 ∷ 0 ∷ []) ∷ []
-unfolding runOf
-three-rows = refl
-
--- the own steps of the three calls of K1: P1 to P3, T1 to T4, and B1 to B5 with B7, the last four in the closing
-own-steps : map (λ (e : Entry). ownSteps (recordIn k1) (e .process) (e .start) (suc (e .end))) (K1 .entries) ≡ 3 ∷ 4 ∷ 6 ∷ []
-unfolding runOf
-own-steps = refl
-
--- K13: a buffer one byte short
-pub K13 : map (λ (k : Case). shown (runOf (k .file) (room k - 1))) runs ≡ map (λ (k : Case). (8 ∷ 0 ∷ 0 ∷ 0 ∷ []) ∷ replicate 7 0 ∷ [] ∷ []) runs
-unfolding runOf
-K13 = refl
+worked = (refl, refl, refl, refl)

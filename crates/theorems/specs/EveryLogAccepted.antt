@@ -8,8 +8,7 @@ abbrev pub EveryLogAccepted : Type 0
 EveryLogAccepted = (file : List ℕ) → Bytes file → (room : ℕ) → runOf file room .number ≡ 0 → runOf file room .gone ≡ 0
     → judgeOf (runOf file room .log) ≡ says 0 0
 
--- The same of the programs, by what they promise; the report's first number is the refusal, its last the gone-round takes. Of `run`, which hands back
--- the written front part of the buffer, and `judge`;
+-- The same of the programs, by their promises; a report begins with the number and ends with the gone-round takes. Of `run` and `judge`;
 abbrev pub RunThenJudge : Type 0
 RunThenJudge = (file : List ℕ) → Bytes file → (room : ℕ) (front report table : List ℕ) → HandsBack file room front report table
     → getD report 0 0 ≡ 0 → getD report 3 0 ≡ 0 → (v : Verdict) → v ≡ judgeOf front → v ≡ says 0 0

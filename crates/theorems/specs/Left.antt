@@ -1,28 +1,22 @@
--- C-17. What is left on the table, of every closed run without gone-round takes: of the bytes of its log and the numbers of its table. The condition that
--- is enough for gone-round to be 0 stands in Tags.antt.
+-- C-17. What is left on the table, of every closed run without gone-round takes: of the bytes of its log and the numbers of its table.
 use Rattle.base.specs.Words.{ℕ, _+_, _-_, _*_, _<_, _≤_, List, [], _∷_, _++_, map, length, getD, take, replicate, _≡_, refl}
 use Rattle.base.specs.{Bytes.Bytes, Lists.listOf}
-use Rattle.log.specs.Decode.{processesOf, slotsOf, entryCountOf, entryAt}
-use Rattle.log.specs.Encode.{logBytes}
+use Rattle.log.specs.{Decode.processesOf, Decode.slotsOf, Decode.entryCountOf, Decode.entryAt, Encode.logBytes}
 use Rattle.rules.specs.Contents.{before}
 use Rattle.rules.specs.Left.{afterAll, leftIn, nodesBy, timesPushed, timesReturned, placesOf, InOnePlace, Leaves}
-use Rattle.runs.specs.Promise.{HandsBack}
-use Rattle.runs.specs.Run.{Outcome, tableRowLength, runOf}
+use Rattle.runs.specs.{Promise.HandsBack, Run.Outcome, Run.tableRowLength, Run.runOf}
 use Rattle.runs.specs.Worked.{Case, room, K1, K2, K3, K4, K5, K6, threeQueues}
 
--- the table's bottom, top and slot i of queue q
+-- the table's bottom and top of queue q
 abbrev pub bottomIn : List ℕ → ℕ → ℕ
 bottomIn table q = getD table (tableRowLength * q) 0
 
 abbrev pub topIn : List ℕ → ℕ → ℕ
 topIn table q = getD table (tableRowLength * q + 1) 0
 
-abbrev pub slotIn : List ℕ → ℕ → ℕ → ℕ
-slotIn table q i = getD table (tableRowLength * q + 3 + i) 0
-
 -- what the slots from top up to bottom hold, in order
 abbrev pub onTable : List ℕ → ℕ → List ℕ
-onTable table q = listOf (bottomIn table q - topIn table q) (λ i. slotIn table q (topIn table q + i))
+onTable table q = listOf (bottomIn table q - topIn table q) (λ i. getD table (tableRowLength * q + 3 + (topIn table q + i)) 0)
 
 -- the nodes that the log's moments leave in queue q
 abbrev pub leftBy : List ℕ → ℕ → List ℕ
@@ -50,8 +44,7 @@ abbrev pub EveryRunLeaves : Type 0
 EveryRunLeaves = (file : List ℕ) → Bytes file → (room : ℕ) → runOf file room .number ≡ 0 → runOf file room .gone ≡ 0
     → LeftOnTable (runOf file room .log) (runOf file room .table)
 
--- The same of the programs, by what they promise: of the log that `run` hands back, `left` gives the nodes on the table. The report's first number is the
--- refusal, its last the gone-round takes.
+-- The same of the programs, by their promises; a report begins with the number and ends with the gone-round takes. `left` gives what is on the table.
 abbrev pub RunThenLeft : Type 0
 RunThenLeft = (file : List ℕ) → Bytes file → (room : ℕ) (front report table : List ℕ) → HandsBack file room front report table
     → getD report 0 0 ≡ 0 → getD report 3 0 ≡ 0 → (q : ℕ) → q < processesOf front → (number count : ℕ) (nodes : List ℕ) → Leaves front q number count nodes
@@ -66,30 +59,20 @@ found o q =
 abbrev leaves : List ℕ → List (List ℕ)
 leaves nodes = nodes ∷ nodes ∷ (length nodes ∷ []) ∷ []
 
-pub worked : map (λ (k : Case). found (runOf (k .file) (room k)) 0) (K1 ∷ K2 ∷ K3 ∷ K5 ∷ K6 ∷ [])
-    ≡ leaves [] ∷ leaves [] ∷ leaves (6 ∷ []) ∷ leaves (3 ∷ []) ∷ leaves (7 ∷ []) ∷ []
-unfolding runOf logBytes entryAt before
-worked = refl
-
-pub worked-three : map (found (runOf (threeQueues .file) (room threeQueues))) (0 ∷ 1 ∷ 2 ∷ [])
-    ≡ leaves (2 ∷ 4 ∷ []) ∷ leaves (12 ∷ 13 ∷ []) ∷ leaves (22 ∷ []) ∷ []
-unfolding runOf logBytes entryAt before
-worked-three = refl
-
 -- K4's gone-round take: node 1 is returned twice, and node 3 neither returned nor left
 abbrev times : Outcome → ℕ → List ℕ
 times o x =
     timesPushed (entryAt (o .log)) (entryCountOf (o .log)) x ∷ timesReturned (entryAt (o .log)) (entryCountOf (o .log)) x
     ∷ placesOf x (onTable (o .table)) (processesOf (o .log)) ∷ []
 
-pub gone-round : map (times (runOf (K4 .file) (room K4))) (1 ∷ 3 ∷ []) ≡ (1 ∷ 2 ∷ 0 ∷ []) ∷ (1 ∷ 0 ∷ 0 ∷ []) ∷ []
-unfolding runOf logBytes entryAt
-gone-round = refl
-
 -- and with its T4 before the last push the log leaves node 3, which is not between top and bottom
 abbrev earlier : List ℕ
 earlier = take 28 (K4 .file) ++ (0 ∷ 0 ∷ 0 ∷ 1 ∷ 1 ∷ 1 ∷ []) ++ replicate 15 0 ++ (1 ∷ 0 ∷ 0 ∷ 0 ∷ [])
 
-pub gone-round-earlier : found (runOf earlier (room K4)) 0 ≡ [] ∷ (3 ∷ []) ∷ (0 ∷ []) ∷ []
+pub worked : (map (λ (k : Case). found (runOf (k .file) (room k)) 0) (K1 ∷ K2 ∷ K3 ∷ K5 ∷ K6 ∷ [])
+    ≡ leaves [] ∷ leaves [] ∷ leaves (6 ∷ []) ∷ leaves (3 ∷ []) ∷ leaves (7 ∷ []) ∷ [])
+    × (map (found (runOf (threeQueues .file) (room threeQueues))) (0 ∷ 1 ∷ 2 ∷ []) ≡ leaves (2 ∷ 4 ∷ []) ∷ leaves (12 ∷ 13 ∷ []) ∷ leaves (22 ∷ []) ∷ [])
+    × (map (times (runOf (K4 .file) (room K4))) (1 ∷ 3 ∷ []) ≡ (1 ∷ 2 ∷ 0 ∷ []) ∷ (1 ∷ 0 ∷ 0 ∷ []) ∷ [])
+    × (found (runOf earlier (room K4)) 0 ≡ [] ∷ (3 ∷ []) ∷ (0 ∷ []) ∷ [])
 unfolding runOf logBytes entryAt before
-gone-round-earlier = refl
+worked = (refl, refl, refl, refl)

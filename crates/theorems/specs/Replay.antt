@@ -1,18 +1,13 @@
--- A run stepped by hand: document 01, "At the desk a run is also stepped by hand". A person keeps a sheet, lends the desk one stage after
--- another, and notes what it answers; the desk alone makes the steps.
+-- A run stepped by hand at the desk: a person keeps a sheet, lends one stage after another, and notes the answers; the desk alone makes the steps.
 use Rattle.base.specs.Words.{ℕ, zero, suc, _/_, _%_, _<_, cond, ltb, List, [], _∷_, _++_, map, length, getD, set, take, drop, replicate, _≡_, refl}
 use Rattle.base.specs.{Lists.listOf, Bytes.Bytes}
-use Rattle.desk.specs.Desk.{numberOf, stageOf, deskAnswer, deskWord, deskSlots}
+use Rattle.desk.specs.{Desk.numberOf, Desk.stageOf, Desk.deskAnswer, Desk.deskWord, Desk.deskSlots, declared.Answer.Answer}
 use Rattle.word.specs.{Stages.isIdle, declared.Stage.Stage, declared.Word.Word}
 use Rattle.word.specs.declared.Stage.the-variants.{Idle, P1, P2, P3, T1, T2, T3, T4, B1, B2, B3, B4, B5, B7}
-use Rattle.desk.specs.declared.Answer.{Answer}
-use Rattle.runfile.specs.File.{RunFile, good, script, recordIn, fileOf}
-use Rattle.runfile.specs.declared.Call.{Call}
-use Rattle.runs.specs.Moment.{queueOf}
+use Rattle.runfile.specs.{File.RunFile, File.good, File.script, File.recordIn, File.fileOf, declared.Call.Call}
+use Rattle.runs.specs.{Moment.queueOf, State.Process, State.Queue, State.State, State.fresh, State.processAt, State.start}
 use Rattle.runs.specs.Run.{play, lowest, closingSteps, closed, inTable, tableRowLength, tableSize, Outcome, runOf, played, closingStep}
-use Rattle.runs.specs.State.{Process, Queue, State, fresh, processAt, start}
-use Rattle.runs.specs.Turn.{firstStage, act, turn, turning}
-use Rattle.runs.specs.Worked.{Case, K1, runs}
+use Rattle.runs.specs.{Turn.firstStage, Turn.act, Turn.turn, Turn.turning, Worked.Case, Worked.K1, Worked.runs}
 
 -- the table: the words and the slots of eight queues
 pub record Table : Type 0 where
@@ -90,9 +85,6 @@ lowestHalfDone (n ∷ ns) = cond (isIdle (n .stage)) (suc (lowestHalfDone ns)) 0
 abbrev pub whoNext : Sheet → ℕ
 whoNext h = getD (h .schedule) 0 (lowestHalfDone (h .notes))
 
-abbrev pub nextLent : Sheet → Lent
-nextLent h = lends (whoNext h) (noteAt (h .notes) (whoNext h))
-
 abbrev pub sheetAfter : ℕ → ℕ → Sheet → Lent → Sheet
 sheetAfter W C h l = record {
   schedule = drop 1 (h .schedule);
@@ -106,7 +98,8 @@ freshSheet f = record { schedule = f .schedule; notes = listOf 8 (λ p. record {
 -- stages that can be lent one after another: each is the one that the sheet has next, none is refused, and after the last the run is closed
 abbrev pub Accepts : ℕ → ℕ → Sheet → List Lent → Type 0
 Accepts W C h [] = whoNext h ≡ 8
-Accepts W C h (l ∷ ls) = (whoNext h < 8) × (l ≡ nextLent h) × (numberOf (answerTo W C (h .table) l) ≡ 0) × Accepts W C (sheetAfter W C h l) ls
+Accepts W C h (l ∷ ls) = (whoNext h < 8) × (l ≡ lends (whoNext h) (noteAt (h .notes) (whoNext h)))
+    × (numberOf (answerTo W C (h .table) l) ≡ 0) × Accepts W C (sheetAfter W C h l) ls
 
 -- What a run lends: at each of its steps the stage of the process's record, and the queue that it works on.
 abbrev pub lentWith : ℕ → Process → Lent
@@ -133,8 +126,7 @@ lentBy f = lentPlaying (f .width) (f .size) (f .calls) (f .schedule) (start f) +
 abbrev pub tableOf : State → Table
 tableOf s = record { words = map (λ (m : Queue). m .word) (s .bench .queues); slots = s .slots }
 
--- a run whose outcome is o, replayed: every stage is accepted, all queues are at the end as the run leaves them, its table is made of them,
--- and the stages are as many as its steps
+-- a run whose outcome is o, replayed: every stage is accepted, the queues and the table are as the run leaves them, and there is a stage a step
 pub record Replayed (f : RunFile) (o : Outcome) : Type 0 where
   pub accepted : Accepts (f .width) (f .size) (freshSheet f) (lentBy f)
   pub queues : replay (f .width) (f .size) (freshTable (f .size)) (lentBy f) ≡ tableOf (closed f)
@@ -150,20 +142,16 @@ EveryRunReplayed = (file : List ℕ) → Bytes file → (room : ℕ) (f : RunFil
 abbrev pub OnlyWay : Type 0
 OnlyWay = (W C : ℕ) (h : Sheet) (ls ms : List Lent) → Accepts W C h ls → Accepts W C h ms → ls ≡ ms
 
--- K1: what its run lends
+-- what K1 lends; and a process with no call left, on its own queue
 abbrev lent : ℕ → ℕ → Stage → Lent
 lent p q z = record { process = p; queue = q; stage = z }
 
-lent-in-K1 : lentBy (recordIn (K1 .file))
+lent-in : (lentBy (recordIn (K1 .file))
     ≡ lent 0 0 (P1 7) ∷ lent 0 0 (P2 7 0) ∷ lent 0 0 (P3 0) ∷ lent 1 0 T1 ∷ lent 1 0 (T2 0 0) ∷ lent 1 0 (T3 0 0 1) ∷ lent 0 0 B1 ∷ lent 0 0 (B2 1)
-    ∷ lent 1 0 (T4 0 0 1 7) ∷ lent 0 0 (B3 1) ∷ lent 0 0 (B4 1 7) ∷ lent 0 0 (B5 1 7 1 0) ∷ lent 0 0 (B7 1 7 1 0) ∷ []
+    ∷ lent 1 0 (T4 0 0 1 7) ∷ lent 0 0 (B3 1) ∷ lent 0 0 (B4 1 7) ∷ lent 0 0 (B5 1 7 1 0) ∷ lent 0 0 (B7 1 7 1 0) ∷ [])
+    × (lentBy (record { width = 8; size = 4; shares = 0 ∷ 0 ∷ []; calls = []; schedule = 1 ∷ [] }) ≡ lent 1 1 Idle ∷ [])
 unfolding lentBy
-lent-in-K1 = refl
-
--- a process with no call left, on its own queue
-lent-idle : lentBy (record { width = 8; size = 4; shares = 0 ∷ 0 ∷ []; calls = []; schedule = 1 ∷ [] }) ≡ lent 1 1 Idle ∷ []
-unfolding lentBy
-lent-idle = refl
+lent-in = (refl, refl)
 
 -- K1 to K8: the number of stages lent, and the first queue's row after them
 abbrev replayed : Case → List ℕ

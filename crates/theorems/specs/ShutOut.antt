@@ -3,8 +3,7 @@
 use Rattle.base.specs.Words.{ℕ, List, length, getD, take, replicate, _≡_}
 use Rattle.base.specs.Bytes.{Bytes}
 use Rattle.log.specs.Decode.{entryAt}
-use Rattle.runs.specs.{Promise.Ran, Promise.HandsBack, Run.tableSize}
-use Rattle.runs.specs.Worked.{Case, K3, room}
+use Rattle.runs.specs.{Promise.Ran, Promise.HandsBack, Run.tableSize, Worked.Case, Worked.K3, Worked.room}
 use Rattle.rules.specs.{Judge.judgeOf, declared.Verdict.Verdict}
 
 abbrev pub FrontHandedBack : Type 0
@@ -36,12 +35,9 @@ logOf b k = b .gives (k .file) (replicate (room k) 0) .log
 
 -- none that keeps its promise is
 pub record ShutOut : Type 0 where
-  -- a bench that refuses all files,
-  pub refuses-all : (b : Bench) → Always b (λ g. getD (g .report) 0 0 ≡ 0 → ⊥) → ⊥
-  -- one with the same log for every file,
-  pub same-log : (b : Bench) (log : List ℕ) → Always b (λ g. g .log ≡ log) → ⊥
-  -- one that moves nothing,
-  pub moves-nothing : (b : Bench) → Always b (λ g. g .table ≡ replicate tableSize 0) → ⊥
+  pub refuses-all : (b : Bench) → Always b (λ g. getD (g .report) 0 0 ≡ 0 → ⊥) → ⊥  -- a bench that refuses all files,
+  pub same-log : (b : Bench) (log : List ℕ) → Always b (λ g. g .log ≡ log) → ⊥  -- one with the same log for every file,
+  pub moves-nothing : (b : Bench) → Always b (λ g. g .table ≡ replicate tableSize 0) → ⊥  -- one that moves nothing,
   -- one that does every call in its first step and idles through the others: no call would end after its start,
   pub all-at-once : (b : Bench) → Always b (λ g. (i : ℕ) → entryAt (g .log) i .end ≡ entryAt (g .log) i .start) → ⊥
   -- and if it gives the ends of such calls honestly, process 1, whose take of K3 begins first, would get 5,

@@ -6,23 +6,15 @@ use Rattle.rules.specs.{Contents.before, Judge.judgeOf}
 use Rattle.log.specs.{Decode.entryAt, Encode.logBytes}
 
 pub data Worked : Type 0 where
-  -- a run, with the verdict on its log: the number, and the entry at fault
-  ran : Case → ℕ → ℕ → Worked
-  -- a run file that is refused, with its number
-  refused : List ℕ → ℕ → Worked
-  -- a log, with the verdict on it
-  judged : List ℕ → ℕ → ℕ → Worked
-
--- K14: K6's log with C = 2, one push, then FULL
-abbrev pub fullTooEarly : List ℕ
-fullTooEarly = logBytes (record { P = 1; C = 2; entries = K6 .entries })
+  ran : Case → ℕ → ℕ → Worked  -- a run, with the verdict on its log: the number, and the entry at fault
+  refused : List ℕ → ℕ → Worked  -- a run file that is refused, with its number
+  judged : List ℕ → ℕ → ℕ → Worked  -- a log, with the verdict on it
 
 abbrev pub worked : List Worked
 worked =
     ran K1 0 0 ∷ ran K2 0 0 ∷ ran K3 0 0 ∷ ran K4 17 5 ∷ ran K4-no-tag 17 5 ∷ ran K5 0 0 ∷ ran K6 0 0 ∷ ran K7 0 0 ∷ ran K8 0 0
-    -- K10: the empty file
-    ∷ refused [] 1
-    ∷ judged fullTooEarly 19 1 ∷ []
+    ∷ refused [] 1  -- K10: the empty file
+    ∷ judged (logBytes (record { P = 1; C = 2; entries = K6 .entries })) 19 1 ∷ []  -- K14: K6's log with C = 2, one push, then FULL
 
 abbrev verdict : List ℕ → List ℕ
 verdict log = judgeOf log .number ∷ judgeOf log .entry ∷ []

@@ -10,21 +10,19 @@ use Rattle.queue.proofs.PackedLaws.{on-three}
 use Rattle.desk.specs.Desk.{answerOf}
 use Rattle.desk.proofs.DeskLaws.{at-desk}
 use Rattle.base.proofs.Settled.{one-value}
-use Rattle.theorems.specs.OneWord.{EveryStep, EveryRun, DeskSame}
+use Rattle.theorems.specs.OneWord.{OneWord}
 use Rattle.theorems.proofs.programs.ShutOut.{front-handed-back}
 
-pub every-step : EveryStep
-every-step W C w slots s answer after h e =
-    let d = sixteen-in W C (length slots) (unpacked w) (loaded slots (loadedSlot s)) s (in-range W C (length slots) (unpacked w) s e) in
-    (h .unpacks .stepped ∙ d, h .aged ∙ ap (λ (o : Stepped). packed (o .word .top) (o .word .tag)) d, h .unpacks .kept)
-
-pub every-run : EveryRun
-every-run file buffer w w′ b b′ r r′ t t′ p q =
-    let d = front-handed-back file buffer w b r t p in
-    let k = front-handed-back file buffer w′ b′ r′ t′ q in
-    (d, one-value (d .part) (k .part), one-value (d .counts) (k .counts), one-value (d .queues) (k .queues))
-
-pub desk-same : DeskSame
-desk-same W C w slots s answer after h d e =
-    at-desk W C w slots s after (unpackedStep answer) (answerOf (answer .next)) e
-    (on-three W C w slots s (packedWord w) answer (unpackedStep answer) after h refl d refl) refl
+pub one-word : OneWord
+one-word = record {
+  every-step = λ W C w slots s answer after h e.
+      let d = sixteen-in W C (length slots) (unpacked w) (loaded slots (loadedSlot s)) s (in-range W C (length slots) (unpacked w) s e) in
+      (h .unpacks .stepped ∙ d, h .aged ∙ ap (λ (o : Stepped). packed (o .word .top) (o .word .tag)) d, h .unpacks .kept);
+  every-run = λ file buffer w w′ b b′ r r′ t t′ p q.
+      let d = front-handed-back file buffer w b r t p in
+      let k = front-handed-back file buffer w′ b′ r′ t′ q in
+      (d, one-value (d .part) (k .part), one-value (d .counts) (k .counts), one-value (d .queues) (k .queues));
+  desk-same = λ W C w slots s answer after h d e.
+      at-desk W C w slots s after (unpackedStep answer) (answerOf (answer .next)) e
+      (on-three W C w slots s (packedWord w) answer (unpackedStep answer) after h refl d refl) refl;
+}

@@ -27,7 +27,7 @@ use Rattle.runs.specs.Moment.{queueOf}
 use Rattle.runs.specs.State.{Process, Queue, State, fresh, nobody, queueAt, processAt}
 use Rattle.runs.specs.Turn.{firstStage, begun, processAfter, queueAfter, acted, act, idle, turnAs, turn, turning}
 use Rattle.runs.proofs.KindLaws.{idle-is}
-use Rattle.theorems.specs.Replay.{wordAt, slotsAt, Lent, answerTo, Note, firstOf, queueFor, lends, noted, Sheet, noteAt, whoNext, nextLent, sheetAfter, lentWith, tableOf}
+use Rattle.theorems.specs.Replay.{wordAt, slotsAt, Lent, answerTo, Note, firstOf, queueFor, lends, noted, Sheet, noteAt, whoNext, sheetAfter, lentWith, tableOf}
 use Rattle.runs.proofs.Sound.{Was, goes, begins, Steps, rowAt, act-is, sound-act, sound-idle}
 use Rattle.runs.specs.inner.Sound.{Sound}
 use Rattle.runs.proofs.Scripts.{sizesOf, fit, finished, sum-take, Scripted, Each, ready-case, turn-case, each-act}
@@ -47,7 +47,7 @@ sheetOf f ps s = record { schedule = ps; notes = map (noteOf f) (s .bench .proce
 
 pub record Step (f : RunFile) (ps : List ℕ) (s : State) (l : Lent) (s′ : State) : Type 0 where
   pub going : whoNext (sheetOf f ps s) < 8
-  pub next : l ≡ nextLent (sheetOf f ps s)
+  pub next : l ≡ (let h : Sheet = sheetOf f ps s in lends (whoNext h) (noteAt (h .notes) (whoNext h)))
   pub number : numberOf (answerTo (f .width) (f .size) (tableOf s) l) ≡ 0
   pub after : sheetAfter (f .width) (f .size) (sheetOf f ps s) l ≡ sheetOf f (drop 1 ps) s′
   pub count : s′ .bench .steps ≡ s .bench .steps + 1

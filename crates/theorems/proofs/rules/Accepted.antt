@@ -53,10 +53,8 @@ module _ (f : RunFile) (w : InRanges f) (gone : closed f .bench .gone ≡ 0) whe
 
   pub log-in-range : InRange (logOf f)
   log-in-range = record {
-    P-low = w .processes .0;
-    P-high = w .processes .1;
-    C-low = w .size .0;
-    C-high = w .size .1;
+    processes = w .processes;
+    slots = w .size;
     few = le (entries-most f) (w .count) (calls-most f w);
     fit = fields-fit f w (closed f) (held .0) (held .1) (origins f w (closed f) (the-end f)) all-idle short;
   }

@@ -17,7 +17,7 @@ use Rattle.log.proofs.EncodeLaws.{processes-decoded, slots-decoded, entry-count
 use Rattle.word.specs.declared.Stage.{Stage}
 use Rattle.runfile.specs.Encode.{InRanges}
 use Rattle.runfile.specs.File.{RunFile}
-use Rattle.runs.specs.Run.{Outcome, closed, finished, tableAt, tableRow, tableSize, inTable}
+use Rattle.runs.specs.Run.{Outcome, closed, finished, tableAt, tableRow, tableRowLength, tableSize, inTable}
 use Rattle.runs.specs.State.{State, queueAt}
 use Rattle.runs.proofs.InRange.{run-cases}
 use Rattle.runs.specs.inner.Sound.{slotsAt}
@@ -30,7 +30,11 @@ use Rattle.theorems.proofs.queue.Inv.{pending}
 use Rattle.theorems.proofs.queue.Memory.{memoryAt, asOwner, lim, until}
 use Rattle.theorems.proofs.queues.Whole.{seat}
 use Rattle.theorems.proofs.rules.Accepted.{logOf, held, all-idle, log-accepted}
-use Rattle.theorems.specs.Left.{bottomIn, topIn, slotIn, onTable, leftBy, LeftHere, LeftOnTable, EveryRunLeaves}
+use Rattle.theorems.specs.Left.{bottomIn, topIn, onTable, leftBy, LeftHere, LeftOnTable, EveryRunLeaves}
+
+-- slot i of queue q in the table
+abbrev slotIn : List ℕ → ℕ → ℕ → ℕ
+slotIn table q i = getD table (tableRowLength * q + 3 + i) 0
 
 -- the numbers of a queue in the table
 module _ (P : ℕ) (s : State) (q : ℕ) (lt : q < P) (small : P ≤ 8) where

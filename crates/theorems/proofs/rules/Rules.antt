@@ -92,15 +92,13 @@ module _ (P : ℕ) (e : Entry) (p : e .process < P) (q : e .queue < P) (order : 
   by-numbers x y k r n own node = record {
     process = p;
     queue = q;
-    kind-from = omega (arith, n .0);
-    kind-to = omega (arith, n .1);
+    kind = (omega (arith, n .0), omega (arith, n .1));
     result = omega (arith, n .2);
     own = own;
     full-push = λ d. k ∙ n .3 (sym r ∙ d);
     nil-pop = λ d c. n .4 (sym r ∙ d) (sym k ∙ c);
     lost-top = λ d. k ∙ n .5 (sym r ∙ d);
-    node-nil = λ d. subst IsNil (sym r) (to-nil y node d);
-    nil-node = λ d. from-nil y node (subst IsNil r d);
+    node = (λ d. subst IsNil (sym r) (to-nil y node d), λ d. from-nil y node (subst IsNil r d));
     start = order;
     end = end;
   }
@@ -197,14 +195,18 @@ module _ (f : RunFile) (w : InRanges f) (s : State) (h : Inv (sizesOf f) s) (j :
     fits =
         let d = wrote i lt in
         record {
-          process = omega (arith, d .process, w .processes);
-          queue = omega (arith, d .queue, w .processes);
-          kind = omega (arith, first-rule .kind-to);
-          result = omega (arith, first-rule .result);
-          node = omega (arith, node-in (what e) refl fields (fine .right) .0);
-          start = omega (arith, fine .order, fine .ended);
-          end = omega (arith, fine .ended);
-          moment = short-moment (bears e) refl;
+          bytes = (
+            omega (arith, d .process, w .processes),
+            omega (arith, d .queue, w .processes),
+            omega (arith, first-rule .kind .1),
+            omega (arith, first-rule .result),
+          );
+          pairs = (
+            omega (arith, node-in (what e) refl fields (fine .right) .0),
+            omega (arith, fine .order, fine .ended),
+            omega (arith, fine .ended),
+            short-moment (bears e) refl,
+          );
         }
       where
         short-moment : (b : Bool) → bears e ≡ b → e .moment < 65536

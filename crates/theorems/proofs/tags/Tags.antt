@@ -27,7 +27,7 @@ use Rattle.runfile.specs.declared.Call.the-variants.{Push, Pop, Take}
 use Rattle.runs.specs.Moment.{queueOf, isTake, goneRound}
 use Rattle.runs.specs.Run.{Outcome, closed}
 use Rattle.runs.proofs.InRange.{run-cases}
-use Rattle.theorems.specs.Tags.{TagIsResets, NoneGoneRound, FewResetsEnough, FewIsNone, TagIsNone}
+use Rattle.theorems.specs.Tags.{FewResets, TagsOfEveryRun, FewResetsEnough}
 use Rattle.runs.specs.State.{Process, Queue, State, fresh, nobody, queueAt, processAt, start}
 use Rattle.runs.specs.States.{StateOf}
 use Rattle.base.proofs.Bools.{or-r}
@@ -309,12 +309,8 @@ short f h Ok s₀ z s o = everywhere f h Ok s₀ z (Short f)
 right : (f : RunFile) → InRanges f → (s : State) → StateOf f s → TagsRight (sizesOf f) s
 right f h s o = short (sizesOf f) (fit f h) (ByScript f) (start f) (start-fresh f h) s (reached f h s o) .right
 
--- In every state of every run the tag of a queue is its resets mod 2^W.
-pub tag-is-resets : TagIsResets
-tag-is-resets f h s o = right f h s o .tags
-
--- Where that is so in every state of the run, no take is gone-round.
-pub none-gone-round : NoneGoneRound
+-- Where in every state of the run resets are few, no take is gone-round.
+pub none-gone-round : (f : RunFile) → InRanges f → ((s : State) → StateOf f s → FewResets f s) → closed f .bench .gone ≡ 0
 none-gone-round f h few =
     let z = sizesOf f in
     let w = fit f h in
@@ -336,17 +332,19 @@ none-gone-round f h few =
 pub few-resets : FewResetsEnough
 few-resets file b room few = run-cases (λ (o : Outcome). o .gone ≡ 0) file b room (λ n low high. refl) (λ f e h. none-gone-round f h (few f e))
 
--- With no tag, fewer than 2^0 resets are none at all: the resets since T1 do not fall.
-pub few-is-none : FewIsNone
-few-is-none f h none s o = (λ few p lt at. omega (arith, few p lt at, since p lt at, one), λ no p lt at. omega (arith, no p lt at, one))
-  where
-    one : 2 ^ f .width ≡ 1
-    one = rw none
+-- the resets since T1 do not fall
+since : (f : RunFile) → InRanges f → (s : State) → StateOf f s → (p : ℕ) → p < length (f .shares) → rowNumber (processAt (s .bench) p .stage) ≡ 7
+    → processAt (s .bench) p .resetsAtT1 ≤ queueAt (s .bench) (queueOf p (processAt (s .bench) p .call)) .resets
+since f h s o p lt at = right f h s o .loaded-tags p lt .thief (rw at refl) .0
 
-    since : (p : ℕ) → p < length (f .shares) → rowNumber (processAt (s .bench) p .stage) ≡ 7
-        → processAt (s .bench) p .resetsAtT1 ≤ queueAt (s .bench) (queueOf p (processAt (s .bench) p .call)) .resets
-    since p lt at = right f h s o .loaded-tags p lt .thief (rw at refl) .0
-
--- With no tag, the tag is 0 in every state of every run.
-pub tag-is-none : TagIsNone
-tag-is-none f h none s o q lt = tag-is-resets f h s o q lt ∙ ap (λ (w : ℕ). queueAt (s .bench) q .resets % 2 ^ w) none ∙ mod-one (queueAt (s .bench) q .resets)
+-- In every state of every run the tag of a queue is its resets mod 2^W, and 0 where W is 0.
+pub tags : TagsOfEveryRun
+tags f h = record {
+  tag-is-resets = λ s o. right f h s o .tags;
+  none-gone-round = none-gone-round f h;
+  few-is-none = λ none s o.
+      let one : 2 ^ f .width ≡ 1 = rw none in
+      (λ few p lt at. omega (arith, few p lt at, since f h s o p lt at, one), λ no p lt at. omega (arith, no p lt at, one));
+  tag-is-none = λ none s o q lt.
+      right f h s o .tags q lt ∙ ap (λ (w : ℕ). queueAt (s .bench) q .resets % 2 ^ w) none ∙ mod-one (queueAt (s .bench) q .resets);
+}
