@@ -3,7 +3,7 @@ use mathlib.Core.Path.{_≡_, refl, sym, ap, _∙_}
 use mathlib.Core.Bool.{Bool, true, false, cond, _&&_, not}
 use mathlib.Core.Logic.{_⊎_, inl, inr}
 use mathlib.Core.List.{List}
-use Prim.Native.Nat.{ℕ, suc, _+_, _-_, _*_, _≤_, _<_}
+use Prim.Native.Nat.{ℕ, suc, _+_, _-_, _*_, _/_, _%_, _≤_, _<_}
 use native.Mathlib.Omega.{arith}
 use native.Mathlib.Decide.{ℕ-discrete, decLt}
 use borrow.Author.Tests.{lt-ltb, ltb-true, ltb-false, eq-eqb, eqb-true, le-leb, leb-true, leb-false}
@@ -21,12 +21,12 @@ use Rattle.base.proofs.Bools.{contra, and-i, and-0, and-1, or-l, or-r, or-e, by
 use Rattle.rules.proofs.SearchLaws.{any-e, any-i, from-i, from-e}
 use Rattle.rules.proofs.ContentLaws.{topmost, last-one}
 use Rattle.judge.specs.inner.Order.{momentAt, indexAt, instant, Fields, Ordered}
-use Rattle.judge.specs.inner.Causes.{uncausedBy, Clean}
+use Rattle.judge.specs.inner.Causes.{tookAt, otherTook, uncausedBy, Clean}
 use Rattle.judge.proofs.ReplayLaws.{event-of, passed, still, now-is, own-is}
 use Rattle.judge.proofs.ShelfLaws.{Shelf, takes, Shelves, full-of, empty-of}
 
 module _ (f : ℕ → Entry) (n : ℕ) (keys : List ℕ) (count : ℕ) (o : Ordered f n keys count) (fields : Fields f n) (k : ℕ) (within : k ≤ count)
-    (held filled took : List ℕ) (s : Shelves f n keys k held filled took) (e : Entry) (queue-low : e .queue < 8) (forward : e .start ≤ e .end)
+    (l : List ℕ) (s : Shelves f n keys k l) (e : Entry) (queue-low : e .queue < 8) (forward : e .start ≤ e .end)
     (past : k < count → 2 * e .end + 1 < momentAt keys k) (upto : instant keys k ≤ 2 * e .end + 2) where
   abbrev q : ℕ
   q = e .queue
@@ -38,16 +38,16 @@ module _ (f : ℕ → Entry) (n : ℕ) (keys : List ℕ) (count : ℕ) (o : Orde
   b = 2 * e .end + 1
 
   abbrev h : ℕ
-  h = getD held q 0
+  h = getD l q 0 / 65536
 
   abbrev since : ℕ
-  since = getD filled q 0
+  since = getD l q 0 % 65536
 
   sh : Shelf f n keys k q h since
   sh = s .shelf q queue-low
 
   abbrev other : Bool
-  other = any (λ p. not (eqb p (e .process)) && ltb a (getD took (8 * q + p) 0)) 8
+  other = otherTook l q (e .process) a 8
 
   abbrev empty : Bool
   empty = emptyWithin f n q a b
@@ -115,8 +115,8 @@ module _ (f : ℕ → Entry) (n : ℕ) (keys : List ℕ) (count : ℕ) (o : Orde
         let p = f i .process in
         let g : takes f q p i ≡ true = and-i (and-i (ap (same TopNode) w) (eq-eqb (f i .queue) q queue-is)) (eq-eqb p p refl) in
         let u = s .taken q p queue-low (fields i below .process) .above i below g (inside i below borne hi) in
-        any-i (λ p. not (eqb p (e .process)) && ltb a (getD took (8 * q + p) 0)) 8 p (fields i below .process)
-        (and-i not-me (lt-ltb a (getD took (8 * q + p) 0) (omega (arith, lo))))
+        any-i (λ p. not (eqb p (e .process)) && ltb a (getD l (tookAt q p) 0)) 8 p (fields i below .process)
+        (and-i not-me (lt-ltb a (getD l (tookAt q p) 0) (omega (arith, lo))))
 
     -- at the bottom: it leaves the queue empty
     by-bottom : what (f i) ≡ BottomNode → length (before f n q (f i .moment)) ≡ 1 → isEmpty (before f n q (suc (f i .moment))) ≡ true
@@ -150,10 +150,10 @@ module _ (f : ℕ → Entry) (n : ℕ) (keys : List ℕ) (count : ℕ) (o : Orde
   -- a take that the table shows
   by-table : other ≡ true → hasCause f n e ≡ true
   by-table t =
-      let z = any-e (λ p. not (eqb p (e .process)) && ltb a (getD took (8 * q + p) 0)) 8 t in
+      let z = any-e (λ p. not (eqb p (e .process)) && ltb a (getD l (tookAt q p) 0)) 8 t in
       let p = z .at in
-      let g = and-0 (not (eqb p (e .process))) (ltb a (getD took (8 * q + p) 0)) (z .passes) in
-      let u = ltb-true a (getD took (8 * q + p) 0) (and-1 (not (eqb p (e .process))) (ltb a (getD took (8 * q + p) 0)) (z .passes)) in
+      let g = and-0 (not (eqb p (e .process))) (ltb a (getD l (tookAt q p) 0)) (z .passes) in
+      let u = ltb-true a (getD l (tookAt q p) 0) (and-1 (not (eqb p (e .process))) (ltb a (getD l (tookAt q p) 0)) (z .passes)) in
       let y = s .taken q p queue-low (z .below) .met a u in
       let i = y .at in
       let w2 = and-0 (takes f q p i && leb a (f i .moment)) (ltb (f i .moment) (instant keys k)) (y .passes) in
@@ -189,9 +189,19 @@ module _ (f : ℕ → Entry) (n : ℕ) (keys : List ℕ) (count : ℕ) (o : Orde
       (not-so other (not-e other (and-1 (ltb 0 h && leb since a) (not other) t)))))
       (λ t. from (ltb 0 h) (leb since a) other refl refl refl (not-e (hasCause f n e) t))
 
-pub chosen-low : (t : Bool) (x y r m : ℕ) → r ≡ cond t x y → x < m → y < m → r < m
-chosen-low true x y r m e u v = omega arith
-chosen-low false x y r m e u v = omega arith
+-- a shelf with a node, as the code has it
+some-held : (x : ℕ) → leb 65536 x ≡ ltb 0 (x / 65536)
+some-held x = by-both (leb 65536 x) (ltb 0 (x / 65536)) (λ t. lt-ltb 0 (x / 65536) (omega (arith, leb-true 65536 x t)))
+    (λ t. le-leb 65536 x (omega (arith, ltb-true 0 (x / 65536) t)))
+
+-- the next entry is that of the next key, where it is due
+pub is-due : (t : Bool) (i r : ℕ) → r ≡ cond t i 256 → r < 256 → (t ≡ true) × (r ≡ i)
+is-due true i r e u = (refl, e)
+is-due false i r e u = absurd (omega arith)
+
+pub not-due : (t : Bool) (i r : ℕ) → r ≡ cond t i 256 → i < 256 → (r < 256 → ⊥) → t ≡ false
+not-due true i r e u v = absurd (v (omega arith))
+not-due false i r e u v = refl
 
 pub moved-on : (keys : List ℕ) (k b : ℕ) → momentAt keys k ≤ b → instant keys (k + 1) ≤ b + 1
 moved-on keys k b h = let e : k + 1 ≡ suc k = omega arith in rw e (omega arith)
@@ -216,23 +226,24 @@ module _ (f : ℕ → Entry) (n : ℕ) (keys : List ℕ) (count : ℕ) (cl : Cle
       let r = cl .fields j u in
       (omega (arith, ap (λ (y : Entry). y .queue) g, r .queue), omega (arith, ap (λ (y : Entry). y .start) g, r .start, r .end))
 
-  -- a moment is below 65,535, so that the one after it has two bytes
-  pub call-early : (e : Entry) (k : ℕ) → e ≡ f (indexAt keys k) → k < count → e .moment + 1 < 65536
-  call-early e k g u =
+  -- a moment has two bytes
+  pub call-early : (k : ℕ) → k < count → f (indexAt keys k) .moment < 65536
+  call-early k u =
       let j = indexAt keys k in
       let v = cl .ordered .index k u in
-      omega (arith, ap (λ (y : Entry). y .moment) g, cl .moments j v .to (cl .ordered .borne k u), cl .fields j v .end)
+      omega (arith, cl .moments j v .to (cl .ordered .borne k u), cl .fields j v .end)
 
-  not-due : (k b : ℕ) → (ltb k count && leb (momentAt keys k) b) ≡ false → k < count → b < momentAt keys k
-  not-due k b h u = leb-false (momentAt keys k) b (sym (ap (λ (t : Bool). t && leb (momentAt keys k) b) (lt-ltb k count u)) ∙ h)
+  later : (k b : ℕ) → (ltb k count && leb (momentAt keys k) b) ≡ false → k < count → b < momentAt keys k
+  later k b h u = leb-false (momentAt keys k) b (sym (ap (λ (t : Bool). t && leb (momentAt keys k) b) (lt-ltb k count u)) ∙ h)
 
-  pub query-told : (k : ℕ) → k ≤ count → (held filled took : List ℕ) → Shelves f n keys k held filled took → (j : ℕ) → j < n → Passed k j
-      → (e : Entry) → e ≡ f j
-      → (ltb k count && leb (momentAt keys k) (2 * e .end + 1)) ≡ false → isTopNil (what e) ≡ true → uncausedBy held filled took e ≡ breaks5 f n j
-  query-told k within held filled took s j u pass e g due nil =
-      cause-is f n keys count (cl .ordered) (cl .fields) k within held filled took s e (nil-low e j g u .0)
+  pub query-told : (k : ℕ) → k ≤ count → (l : List ℕ) → Shelves f n keys k l → (j : ℕ) → j < n → Passed k j → (e : Entry) → e ≡ f j
+      → (ltb k count && leb (momentAt keys k) (2 * e .end + 1)) ≡ false → isTopNil (what e) ≡ true → uncausedBy l e ≡ breaks5 f n j
+  query-told k within l s j u pass e g due nil =
+      ap (λ (t : Bool). t && leb (getD l (e .queue) 0 % 65536) (2 * e .start) && not (otherTook l (e .queue) (e .process) (2 * e .start) 8))
+      (some-held (getD l (e .queue) 0))
+      ∙ cause-is f n keys count (cl .ordered) (cl .fields) k within l s e (nil-low e j g u .0)
       (omega (arith, ap (λ (y : Entry). y .start) g, ap (λ (y : Entry). y .end) g, cl .fields j u .start))
-      (not-due k (2 * e .end + 1) due) (omega (arith, ap (λ (y : Entry). y .end) g, pass j (omega arith) u))
+      (later k (2 * e .end + 1) due) (omega (arith, ap (λ (y : Entry). y .end) g, pass j (omega arith) u))
       ∙ sym (ap (λ (t : Bool). t && not (hasCause f n e)) nil)
       ∙ ap (λ (y : Entry). isTopNil (what y) && not (hasCause f n y)) g
 

@@ -3,10 +3,10 @@ use mathlib.Core.Path.{_≡_, refl, sym, ap, _∙_, subst}
 use mathlib.Core.Bool.{Bool, true, false, cond, _&&_}
 use mathlib.Core.Logic.{_⊎_, inl, inr}
 use mathlib.Core.List.{List, [], _∷_}
-use Prim.Native.Nat.{ℕ, suc, _+_, _-_, _*_, _≤_, _<_}
+use Prim.Native.Nat.{ℕ, suc, _+_, _-_, _*_, _/_, _%_, _≤_, _<_}
 use native.Mathlib.Omega.{arith}
 use native.Mathlib.Decide.{ℕ-discrete, decLt}
-use borrow.Author.Tests.{lt-ltb, ltb-true, eq-eqb, eqb-true, eqb-false, le-leb}
+use borrow.Author.Tests.{lt-ltb, le-ltb, ltb-true, eq-eqb, ne-eqb, eqb-true, eqb-false, le-leb}
 use lib.Dec.{eqb, ltb, leb}
 use lib.ListN.{length, getD, set, replicate, length-set, length-append}
 use lib.Seq.{getD-set-same, getD-set-other}
@@ -22,7 +22,7 @@ use Rattle.rules.proofs.SearchLaws.{Found}
 use Rattle.rules.proofs.ContentLaws.{before-start}
 use Rattle.judge.proofs.EndLaws.{zeros}
 use Rattle.judge.specs.inner.Order.{momentAt, indexAt, instant, Fields, Ordered}
-use Rattle.judge.specs.inner.Causes.{heldAfter}
+use Rattle.judge.specs.inner.Causes.{shelfBy, shelfAfter, tookAfter, tookAt, shelved, passedBy, Passable}
 use Rattle.judge.proofs.ReplayLaws.{event-of, passed, instant-le, still, now-is, other-is, own-is}
 
 pub full-of : (c : List ℕ) → 0 < length c → isEmpty c ≡ false
@@ -41,6 +41,16 @@ length-dropLast (x ∷ y ∷ c) = omega (arith, length-dropLast (y ∷ c))
 length-dropFirst : (c : List ℕ) → length (dropFirst c) ≡ length c - 1
 length-dropFirst [] = refl
 length-dropFirst (x ∷ c) = omega arith
+
+-- how many nodes a lawful call leaves of so many
+abbrev heldAfter : What → ℕ → ℕ
+heldAfter Pushed h = h + 1
+heldAfter Full h = h
+heldAfter BottomNode h = h - 1
+heldAfter BottomNil h = h
+heldAfter TopNode h = h - 1
+heldAfter TopNil h = h
+heldAfter TopLost h = h
 
 length-applied : (w : What) (v : ℕ) (c : List ℕ) → length (applied w v c) ≡ heldAfter w (length c)
 length-applied Pushed v c = length-append c (v ∷ [])
@@ -70,6 +80,48 @@ held-from TopNode h u e = omega arith
 held-from TopNil h u e = u
 held-from TopLost h u e = u
 
+-- the two numbers of a shelf after a call at moment m
+module _ (m s : ℕ) (early : m < 65536) where
+  held-fewer : cond (ltb s 65536) s (s - 65536) / 65536 ≡ s / 65536 - 1
+  held-fewer = split (decLt s 65536)
+    where
+      split : Dec (s < 65536) → cond (ltb s 65536) s (s - 65536) / 65536 ≡ s / 65536 - 1
+      split (yes d) = rw (lt-ltb s 65536 d) (omega arith)
+      split (no d) = rw (le-ltb s 65536 (omega arith)) (omega arith)
+
+  shelf-held : (w : What) → shelfBy w m s / 65536 ≡ heldAfter w (s / 65536)
+  shelf-held Pushed = split (decLt s 65536)
+    where
+      split : Dec (s < 65536) → cond (ltb s 65536) (65536 + m) (s + 65536) / 65536 ≡ s / 65536 + 1
+      split (yes d) = rw (lt-ltb s 65536 d) (omega arith)
+      split (no d) = rw (le-ltb s 65536 (omega arith)) (omega arith)
+  shelf-held Full = refl
+  shelf-held BottomNode = held-fewer
+  shelf-held BottomNil = refl
+  shelf-held TopNode = held-fewer
+  shelf-held TopNil = refl
+  shelf-held TopLost = refl
+
+  filled-still : cond (ltb s 65536) s (s - 65536) % 65536 ≡ s % 65536
+  filled-still = split (decLt s 65536)
+    where
+      split : Dec (s < 65536) → cond (ltb s 65536) s (s - 65536) % 65536 ≡ s % 65536
+      split (yes d) = rw (lt-ltb s 65536 d)
+      split (no d) = rw (le-ltb s 65536 (omega arith)) (omega arith)
+
+  shelf-filled : (w : What) → shelfBy w m s % 65536 ≡ cond (same Pushed w && eqb (s / 65536) 0) m (s % 65536)
+  shelf-filled Pushed = split (decLt s 65536)
+    where
+      split : Dec (s < 65536) → cond (ltb s 65536) (65536 + m) (s + 65536) % 65536 ≡ cond (eqb (s / 65536) 0) m (s % 65536)
+      split (yes d) = rw (lt-ltb s 65536 d, eq-eqb (s / 65536) 0 (omega arith)) (omega arith)
+      split (no d) = rw (le-ltb s 65536 (omega arith), ne-eqb (s / 65536) 0 (λ e. omega arith)) (omega arith)
+  shelf-filled Full = refl
+  shelf-filled BottomNode = filled-still
+  shelf-filled BottomNil = refl
+  shelf-filled TopNode = filled-still
+  shelf-filled TopNil = refl
+  shelf-filled TopLost = refl
+
 -- how many nodes queue q holds, and since when it has held some
 pub record Shelf (f : ℕ → Entry) (n : ℕ) (keys : List ℕ) (k q held filled : ℕ) : Type 0 where
   pub is : held ≡ length (before f n q (instant keys k))
@@ -87,26 +139,22 @@ pub record Taken (f : ℕ → Entry) (n : ℕ) (keys : List ℕ) (k q p t : ℕ)
   pub above : (i : ℕ) → i < n → takes f q p i ≡ true → f i .moment < instant keys k → f i .moment < t
   pub met : (y : ℕ) → y < t → Found (λ i. takes f q p i && leb y (f i .moment) && ltb (f i .moment) (instant keys k)) n
 
-pub record Shelves (f : ℕ → Entry) (n : ℕ) (keys : List ℕ) (k : ℕ) (held filled took : List ℕ) : Type 0 where
-  pub held-long : length held ≡ 8
-  pub filled-long : length filled ≡ 8
-  pub took-long : length took ≡ 64
-  pub shelf : (q : ℕ) → q < 8 → Shelf f n keys k q (getD held q 0) (getD filled q 0)
-  pub taken : (q p : ℕ) → q < 8 → p < 8 → Taken f n keys k q p (getD took (8 * q + p) 0)
+pub record Shelves (f : ℕ → Entry) (n : ℕ) (keys : List ℕ) (k : ℕ) (l : List ℕ) : Type 0 where
+  pub long : length l ≡ 72
+  pub shelf : (q : ℕ) → q < 8 → Shelf f n keys k q (getD l q 0 / 65536) (getD l q 0 % 65536)
+  pub taken : (q p : ℕ) → q < 8 → p < 8 → Taken f n keys k q p (getD l (tookAt q p) 0)
 
-pub shelves-start : (f : ℕ → Entry) (n : ℕ) (keys : List ℕ) → Shelves f n keys 0 (replicate 8 0) (replicate 8 0) (replicate 64 0)
+pub shelves-start : (f : ℕ → Entry) (n : ℕ) (keys : List ℕ) → Shelves f n keys 0 (replicate 72 0)
 shelves-start f n keys = record {
-  held-long = refl;
-  filled-long = refl;
-  took-long = refl;
-  shelf = λ q u. let z = zeros 8 q in record {
-    is = z ∙ sym (ap length (before-start f n q));
-    few = omega arith;
-    empty = ap (λ (x : ℕ). isEmpty (before f n q x)) z ∙ ap isEmpty (before-start f n q);
-    early = omega arith;
-    since = λ h x a b. absurd (omega arith);
+  long = refl;
+  shelf = λ q u. let z = zeros 72 q in record {
+    is = ap (λ (x : ℕ). x / 65536) z ∙ sym (ap length (before-start f n q));
+    few = omega (arith, z);
+    empty = ap (λ (x : ℕ). isEmpty (before f n q (x % 65536))) z ∙ ap isEmpty (before-start f n q);
+    early = omega (arith, z);
+    since = λ h x a b. absurd (omega (arith, z));
   };
-  taken = λ q p u v. let z = zeros 64 (8 * q + p) in record { above = λ i w t m. absurd (omega arith); met = λ y w. absurd (omega arith) };
+  taken = λ q p u v. let z = zeros 72 (tookAt q p) in record { above = λ i w t m. absurd (omega arith); met = λ y w. absurd (omega arith) };
 }
 
 module _ (f : ℕ → Entry) (n : ℕ) (keys : List ℕ) (count : ℕ) (o : Ordered f n keys count) (k : ℕ) (inside : k < count) where
@@ -235,7 +283,7 @@ module _ (f : ℕ → Entry) (n : ℕ) (keys : List ℕ) (count : ℕ) (o : Orde
           contra (top j) (and-0 (top j) (eqb (f j .queue) (f j .queue))
           (and-0 (top j && eqb (f j .queue) (f j .queue)) (eqb (f j .process) (f j .process)) h)) e) s
 
-  module _ (held filled took : List ℕ) (s : Shelves f n keys k held filled took) (fields : Fields f n) where
+  module _ (l : List ℕ) (s : Shelves f n keys k l) (fields : Fields f n) (early : f j .moment < 65536) where
     abbrev q : ℕ
     q = f j .queue
 
@@ -248,79 +296,54 @@ module _ (f : ℕ → Entry) (n : ℕ) (keys : List ℕ) (count : ℕ) (o : Orde
     p-low : p < 8
     p-low = fields j (o .index k inside) .process
 
-    abbrev held′ : List ℕ
-    held′ = set held q (heldAfter (what (f j)) (getD held q 0))
+    abbrev l₁ : List ℕ
+    l₁ = shelved (f j) l
 
-    abbrev filled′ : List ℕ
-    filled′ = set filled q (cond (same Pushed (what (f j)) && eqb (getD held q 0) 0) (f j .moment) (getD filled q 0))
+    abbrev l₂ : List ℕ
+    l₂ = passedBy (f j) l
 
-    abbrev took′ : List ℕ
-    took′ = set took (8 * q + p) (cond (top j) (f j .moment + 1) (getD took (8 * q + p) 0))
+    -- a place that is not the take's is as the shelf's change leaves it
+    shelf-place : (x : ℕ) → x < 8 → getD l₂ x 0 ≡ getD l₁ x 0
+    shelf-place x u = getD-set-other l₁ (tookAt q p) x (tookAfter (f j) (getD l₁ (tookAt q p) 0)) 0 (λ e. omega arith)
 
-    shelf-next : (x : ℕ) → x < 8 → Dec (x ≡ q) → Shelf f n keys (suc k) x (getD held′ x 0) (getD filled′ x 0)
+    took-place : (x y : ℕ) → getD l₁ (tookAt x y) 0 ≡ getD l (tookAt x y) 0
+    took-place x y = getD-set-other l q (tookAt x y) (shelfAfter (f j) (getD l q 0)) 0 (λ e. omega (arith, q-low))
+
+    shelf-next : (x : ℕ) → x < 8 → Dec (x ≡ q) → Shelf f n keys (suc k) x (getD l₂ x 0 / 65536) (getD l₂ x 0 % 65536)
     shelf-next x u (yes e) =
-        rw (
-          e,
-          getD-set-same held q (heldAfter (what (f j)) (getD held q 0)) 0 (omega (arith, s .held-long, q-low)),
-          getD-set-same filled q (cond (same Pushed (what (f j)) && eqb (getD held q 0) 0) (f j .moment) (getD filled q 0)) 0
-              (omega (arith, s .filled-long, q-low)),
-          o .moment k inside,
-        )
-        (shelf-own (getD held q 0) (getD filled q 0) (same Pushed (what (f j)) && eqb (getD held q 0) 0) refl (s .shelf q q-low))
+        let d = getD l q 0 in
+        let z : getD l₂ q 0 ≡ shelfAfter (f j) d = shelf-place q q-low ∙ getD-set-same l q (shelfAfter (f j) d) 0 (omega (arith, s .long, q-low)) in
+        rw (e, z, shelf-held (f j .moment) d early (what (f j)), shelf-filled (f j .moment) d early (what (f j)), o .moment k inside)
+        (shelf-own (d / 65536) (d % 65536) (same Pushed (what (f j)) && eqb (d / 65536) 0) refl (s .shelf q q-low))
     shelf-next x u (no e) =
-        rw (
-          getD-set-other held q x (heldAfter (what (f j)) (getD held q 0)) 0 e,
-          getD-set-other filled q x
-              (cond (same Pushed (what (f j)) && eqb (getD held q 0) 0) (f j .moment) (getD filled q 0)) 0 e,
-        )
-        (shelf-other x (getD held x 0) (getD filled x 0) (λ t. e (sym t)) (s .shelf x u))
+        let z : getD l₂ x 0 ≡ getD l x 0 = shelf-place x u ∙ getD-set-other l q x (shelfAfter (f j) (getD l q 0)) 0 e in
+        rw z (shelf-other x (getD l x 0 / 65536) (getD l x 0 % 65536) (λ t. e (sym t)) (s .shelf x u))
 
-    taken-next : (x y : ℕ) → x < 8 → y < 8 → Dec (8 * x + y ≡ 8 * q + p) → Taken f n keys (suc k) x y (getD took′ (8 * x + y) 0)
+    taken-next : (x y : ℕ) → x < 8 → y < 8 → Dec (tookAt x y ≡ tookAt q p) → Taken f n keys (suc k) x y (getD l₂ (tookAt x y) 0)
     taken-next x y u v (yes e) =
         let a : x ≡ q = omega (arith, p-low) in
         let b : y ≡ p = omega (arith, p-low) in
-        rw (
-          a,
-          b,
-          getD-set-same took (8 * q + p) (cond (top j) (f j .moment + 1) (getD took (8 * q + p) 0)) 0
-              (omega (arith, s .took-long, q-low, p-low)),
-          o .moment k inside,
-        )
-        (taken-own (getD took (8 * q + p) 0) (s .taken q p q-low p-low))
+        let t = tookAfter (f j) (getD l₁ (tookAt q p) 0) in
+        let z : getD l₂ (tookAt q p) 0 ≡ t = getD-set-same l₁ (tookAt q p) t 0 (simp length-set (omega (arith, s .long, q-low, p-low))) in
+        rw (a, b, z, took-place q p, o .moment k inside) (taken-own (getD l (tookAt q p) 0) (s .taken q p q-low p-low))
     taken-next x y u v (no e) =
-        rw (getD-set-other took (8 * q + p) (8 * x + y) (cond (top j) (f j .moment + 1) (getD took (8 * q + p) 0)) 0 e)
-        (taken-other x y (getD took (8 * x + y) 0) (λ h.
+        let t = tookAfter (f j) (getD l₁ (tookAt q p) 0) in
+        rw (getD-set-other l₁ (tookAt q p) (tookAt x y) t 0 e, took-place x y)
+        (taken-other x y (getD l (tookAt x y) 0) (λ h.
         let a : q ≡ x = eqb-true q x (and-1 (top j) (eqb q x) (and-0 (top j && eqb q x) (eqb p y) h)) in
         let b : p ≡ y = eqb-true p y (and-1 (top j && eqb q x) (eqb p y) h) in
         e (omega arith)) (s .taken x y u v))
 
-    shelves-next : Shelves f n keys (suc k) held′ filled′ took′
-    shelves-next = record {
-      held-long = simp length-set (s .held-long);
-      filled-long = simp length-set (s .filled-long);
-      took-long = simp length-set (s .took-long);
+    pub shelves-next : Shelves f n keys (k + 1) l₂
+    shelves-next = subst (λ (x : ℕ). Shelves f n keys x l₂) step (record {
+      long = simp length-set (s .long);
       shelf = λ x u. shelf-next x u (ℕ-discrete x q);
-      taken = λ x y u v. taken-next x y u v (ℕ-discrete (8 * x + y) (8 * q + p));
-    }
-
-    -- the same of an entry e that was read, as the code has it
-    pub record Told (e : Entry) : Type 0 where
-      pub queue : e .queue < 8
-      pub process : e .process < 8
-      pub few : getD held (e .queue) 0 ≤ k
-
-    pub told : (e : Entry) → e ≡ f j → Told e
-    told e e₁ = subst Told (sym e₁) (record { queue = q-low; process = p-low; few = s .shelf q q-low .few })
-
-    pub shelves-told : (e : Entry) → e ≡ f j → (a b d : ℕ) → a ≡ heldAfter (what e) (getD held (e .queue) 0)
-        → b ≡ cond (same Pushed (what e) && eqb (getD held (e .queue) 0) 0) (e .moment) (getD filled (e .queue) 0)
-        → d ≡ cond (same TopNode (what e)) (e .moment + 1) (getD took (8 * e .queue + e .process) 0)
-        → Shelves f n keys (k + 1) (set held (e .queue) a) (set filled (e .queue) b) (set took (8 * e .queue + e .process) d)
-    shelves-told e e₁ = subst (λ (e : Entry). (a b d : ℕ) → a ≡ heldAfter (what e) (getD held (e .queue) 0)
-        → b ≡ cond (same Pushed (what e) && eqb (getD held (e .queue) 0) 0) (e .moment) (getD filled (e .queue) 0)
-        → d ≡ cond (same TopNode (what e)) (e .moment + 1) (getD took (8 * e .queue + e .process) 0)
-        → Shelves f n keys (k + 1) (set held (e .queue) a) (set filled (e .queue) b) (set took (8 * e .queue + e .process) d))
-        (sym e₁) (λ a b d e₂ e₃ e₄. rw (e₂, e₃, e₄) (subst (λ (x : ℕ). Shelves f n keys x held′ filled′ took′) step shelves-next))
+      taken = λ x y u v. taken-next x y u v (ℕ-discrete (tookAt x y) (tookAt q p));
+    })
       where
         step : suc k ≡ k + 1
         step = omega arith
+
+    -- the call's numbers are low enough to be gone past
+    pub passable : k ≤ 256 → Passable (f j) l
+    passable u = (q-low, p-low, omega (arith, s .shelf q q-low .few), s .long)

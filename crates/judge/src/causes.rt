@@ -1,16 +1,14 @@
 // Rule 5: one pass in file order over the NIL top pops, whose ends rise; the calls up to each one's end are gone through by rising moments.
 ghost use mathlib.Core.Path.{_≡_};
-ghost use mathlib.Core.Bool.{_&&_, not};
+ghost use mathlib.Core.Bool.{_&&_, cond};
 ghost use Prim.Native.Nat.{_+_, _*_, _^_, _≤_, _<_};
-ghost use lib.Dec.{eqb, ltb, leb};
-ghost use lib.ListN.{getD, length};
+ghost use lib.Dec.{ltb, leb};
+ghost use lib.ListN.{length};
 ghost use Rattle.log.specs.Decode.{entryAt};
-ghost use Rattle.rules.specs.Search.{any};
 ghost use Rattle.rules.specs.Judge.{first5};
-ghost use Rattle.judge.specs.inner.Order.{momentAt, Whole};
-ghost use Rattle.judge.specs.inner.Causes.{heldAfter, uncausedBy, Clean};
+ghost use Rattle.judge.specs.inner.Order.{momentAt, indexAt, Whole};
+ghost use Rattle.judge.specs.inner.Causes.{shelfAfter, tookAfter, passedBy, Passable, otherTook, uncausedBy, Clean};
 use crate::fields::choose;
-use crate::fields::pushed;
 use crate::fields::took_top;
 use crate::fields::top_nil;
 use crate::fields::what;
@@ -18,53 +16,71 @@ use crate::read::entry;
 use log::Entry;
 use log::What;
 
-// How many nodes a lawful call leaves.
-fn held_after(did: What, held: usize) -> usize
-    requires { ⌜ held < 2 ^ 32 ⌝ }
-    ensures { λ r. ⌜ r ≡ heldAfter did held ⌝ }
+// What a call makes of its queue's shelf, which is 65,536 times how many nodes the queue holds, plus the moment at which it was filled.
+fn shelf_after(e: Entry, shelf: u32) -> u32
+    requires { ⌜ shelf < 2 ^ 31 ⌝ }
+    ensures { λ r. ⌜ r ≡ shelfAfter e shelf ⌝ }
 {
+    let did = what(e);
     match did {
-        What::Pushed => held + 1,
-        What::BottomNode | What::TopNode => {
-            if held == 0 {
-                return 0;
+        What::Pushed => {
+            if shelf < 65536 {
+                return 65536 + e.moment as u32;
             }
-            held - 1
+            shelf + 65536
         }
-        What::Full | What::BottomNil | What::TopNil | What::TopLost => held,
+        What::BottomNode | What::TopNode => {
+            if shelf < 65536 {
+                return shelf;
+            }
+            shelf - 65536
+        }
+        What::Full | What::BottomNil | What::TopNil | What::TopLost => shelf,
     }
 }
 
-// Whether there is a next key, with a moment up to this one.
-fn due(keys: &[usize], count: usize, k: usize, to: usize) -> bool
+// The moment after the last take of the call's process from its queue, where it was this before the call.
+fn took_after(e: Entry, took: u32) -> u32
+    ensures { λ r. ⌜ r ≡ tookAfter e took ⌝ }
+{
+    if took_top(e) { e.moment as u32 + 1 } else { took }
+}
+
+// Goes past entry i, whose moment is the next. Queue q's shelf lies at q, and at 8 + 8 * q + p the moment after process p's last take from it.
+fn pass(log: &[u8], i: usize, shelves: &mut [u32; 72])
+    requires { ⌜ (i < 256) × (17 + 12 * i ≤ length (now log)) × Passable (entryAt (now log) i) (now shelves) ⌝ }
+    ensures { λ _. ⌜ now (shelves .exit) ≡ passedBy (entryAt (now (log .entry)) i) (now (shelves .entry)) ⌝ }
+{
+    let e = entry(log, i);
+    let q = e.queue as usize;
+    let at = 8 * q + e.process as usize + 8;
+    shelves[q] = shelf_after(e, shelves[q]);
+    shelves[at] = took_after(e, shelves[at]);
+}
+
+// The entry of the next key, where its moment is up to this one; else 256.
+fn due(keys: &[usize], count: usize, k: usize, to: usize) -> usize
     requires { ⌜ (count ≤ 256) × (count ≤ length (now keys)) ⌝ }
-    ensures { λ r. ⌜ r ≡ (ltb k count && leb (momentAt (now (keys .entry)) k) to) ⌝ }
+    ensures { λ r. ⌜ r ≡ cond (ltb k count && leb (momentAt (now (keys .entry)) k) to) (indexAt (now (keys .entry)) k) 256 ⌝ }
 {
     if k < count {
         let key = keys[k];
-        key / 256 <= to
+        choose(key / 256 <= to, key % 256, 256)
     } else {
-        false
+        256
     }
 }
 
-// A number of two bytes from an array, whose range is known of a parameter and not of what is read there.
-fn wide(x: u16) -> usize
-    ensures { λ r. ⌜ (r ≡ x) × (r < 65536) ⌝ }
-{
-    x as usize
-}
-
 // Whether another process took from the top of queue q at a moment from this one on.
-fn other_took(took: &[u16; 64], q: usize, process: usize, from: u16) -> bool
+fn other_took(shelves: &[u32; 72], q: usize, process: usize, from: u32) -> bool
     requires { ⌜ q < 8 ⌝ }
-    ensures { λ r. ⌜ r ≡ any (λ p. not (eqb p process) && ltb from (getD (now (took .entry)) (8 * q + p) 0)) 8 ⌝ }
+    ensures { λ r. ⌜ r ≡ otherTook (now (shelves .entry)) q process from 8 ⌝ }
 {
     let mut hit = false;
     let mut p: usize = 0;
     while p < 8 {
-        let at = 8 * q + p;
-        let x = took[at];
+        let at = 8 * q + p + 8;
+        let x = shelves[at];
         hit = hit | (!(p == process) & (from < x));
         p = p + 1;
     }
@@ -72,27 +88,23 @@ fn other_took(took: &[u16; 64], q: usize, process: usize, from: u16) -> bool
 }
 
 // Whether a NIL top pop has no cause, where all moments up to its end have been gone through.
-fn uncaused(held: &[usize; 8], filled: &[usize; 8], took: &[u16; 64], nil: Entry) -> bool
+fn uncaused(shelves: &[u32; 72], nil: Entry) -> bool
     requires { ⌜ (nil .queue < 8) × (nil .start < 32768) ⌝ }
-    ensures { λ r. ⌜ r ≡ uncausedBy (now (held .entry)) (now (filled .entry)) (now (took .entry)) nil ⌝ }
+    ensures { λ r. ⌜ r ≡ uncausedBy (now (shelves .entry)) nil ⌝ }
 {
     let on = nil.queue as usize;
-    let from = 2 * nil.start;
-    let h = held[on];
-    let f = filled[on];
-    let other = other_took(took, on, nil.process as usize, from);
-    (0 < h) & (f <= from as usize) & !other
+    let from = 2 * (nil.start as u32);
+    let shelf = shelves[on];
+    let other = other_took(shelves, on, nil.process as usize, from);
+    (65536 <= shelf) & (shelf % 65536 <= from) & !other
 }
 
-// The first entry that breaks rule 5, or n. Of each queue: how many nodes it holds, the moment at which it was filled, and for each process the
-// moment after its last take.
+// The first entry that breaks rule 5, or n.
 pub(crate) fn first_uncaused(log: &[u8], n: usize, keys: &[usize], count: usize) -> usize
     requires { ⌜ Clean (entryAt (now log)) n (now keys) count × Whole (now log) n × (n ≤ length (now keys)) ⌝ }
     ensures { λ r. ⌜ r ≡ first5 (entryAt (now (log .entry))) n ⌝ }
 {
-    let mut held: [usize; 8] = [0; 8];
-    let mut filled: [usize; 8] = [0; 8];
-    let mut took: [u16; 64] = [0; 64];
+    let mut shelves: [u32; 72] = [0; 72];
     let mut k: usize = 0;
     let mut j: usize = 0;
     while j < n {
@@ -102,22 +114,13 @@ pub(crate) fn first_uncaused(log: &[u8], n: usize, keys: &[usize], count: usize)
             continue;
         }
         let to = 2 * (nil.end as usize) + 1;
-        if due(keys, count, k, to) {
-            let key = keys[k];
-            let e = entry(log, key % 256);
-            let q = e.queue as usize;
-            let moment = e.moment as usize;
-            let at = 8 * q + e.process as usize;
-            let h = held[q];
-            let f = filled[q];
-            let t = wide(took[at]);
-            held[q] = held_after(what(e), h);
-            filled[q] = choose(pushed(e) & (h == 0), moment, f);
-            took[at] = choose(took_top(e), moment + 1, t) as u16;
+        let next = due(keys, count, k, to);
+        if next < 256 {
+            pass(log, next, &mut shelves);
             k = k + 1;
             continue;
         }
-        if uncaused(&held, &filled, &took, nil) {
+        if uncaused(&shelves, nil) {
             return j;
         }
         j = j + 1;

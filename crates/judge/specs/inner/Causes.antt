@@ -1,32 +1,57 @@
 -- What the search for causes keeps of each queue.
-use mathlib.Core.Bool.{Bool, _&&_, not}
+use mathlib.Core.Path.{_≡_}
+use mathlib.Core.Bool.{Bool, cond, _&&_, not}
 use mathlib.Core.List.{List}
-use Prim.Native.Nat.{ℕ, _+_, _-_, _*_, _<_, _≤_}
+use Prim.Native.Nat.{ℕ, _+_, _-_, _*_, _/_, _%_, _^_, _<_, _≤_}
 use lib.Dec.{eqb, ltb, leb}
-use lib.ListN.{getD}
+use lib.ListN.{getD, set, length}
 use Rattle.log.specs.declared.Entry.{Entry}
 use Rattle.log.specs.declared.What.{What}
 use Rattle.log.specs.declared.What.the-variants.{Pushed, Full, BottomNode, BottomNil, TopNode, TopNil, TopLost}
+use Rattle.log.specs.Numbers.{what, same}
 use Rattle.rules.specs.Search.{any}
 use Rattle.rules.specs.Accepted.{Rule3}
 use Rattle.rules.specs.Judge.{first3, first4}
 use Rattle.judge.specs.inner.Order.{Fields, Ordered}
 
--- how many nodes a lawful call leaves of so many
-abbrev pub heldAfter : What → ℕ → ℕ
-heldAfter Pushed h = h + 1
-heldAfter Full h = h
-heldAfter BottomNode h = h - 1
-heldAfter BottomNil h = h
-heldAfter TopNode h = h - 1
-heldAfter TopNil h = h
-heldAfter TopLost h = h
+-- a queue's shelf is 65,536 times how many nodes it holds, plus the moment at which it was filled; what a lawful call at moment m makes of it
+abbrev pub shelfBy : What → ℕ → ℕ → ℕ
+shelfBy Pushed m s = cond (ltb s 65536) (65536 + m) (s + 65536)
+shelfBy Full m s = s
+shelfBy BottomNode m s = cond (ltb s 65536) s (s - 65536)
+shelfBy BottomNil m s = s
+shelfBy TopNode m s = cond (ltb s 65536) s (s - 65536)
+shelfBy TopNil m s = s
+shelfBy TopLost m s = s
+
+abbrev pub shelfAfter : Entry → ℕ → ℕ
+shelfAfter e s = shelfBy (what e) (e .moment) s
+
+-- the moment after the last take from the top, where it was t before the call
+abbrev pub tookAfter : Entry → ℕ → ℕ
+tookAfter e t = cond (same TopNode (what e)) (e .moment + 1) t
+
+-- the shelves of eight queues, and after them for each queue and process the moment after the process's last take
+abbrev pub tookAt : ℕ → ℕ → ℕ
+tookAt q p = 8 * q + p + 8
+
+abbrev pub shelved : Entry → List ℕ → List ℕ
+shelved e l = set l (e .queue) (shelfAfter e (getD l (e .queue) 0))
+
+abbrev pub passedBy : Entry → List ℕ → List ℕ
+passedBy e l = set (shelved e l) (tookAt (e .queue) (e .process)) (tookAfter e (getD (shelved e l) (tookAt (e .queue) (e .process)) 0))
+
+abbrev pub Passable : Entry → List ℕ → Type 0
+Passable e l = (e .queue < 8) × (e .process < 8) × (getD l (e .queue) 0 < 2 ^ 31) × (length l ≡ 72)
+
+-- one of the first k processes, but this one, took from the top of queue q after an instant
+abbrev pub otherTook : List ℕ → ℕ → ℕ → ℕ → ℕ → Bool
+otherTook l q process from k = any (λ p. not (eqb p process) && ltb from (getD l (tookAt q p) 0)) k
 
 -- a NIL top pop e has no cause: its queue holds a node, and has since its start, and no other process took one at the top since
-abbrev pub uncausedBy : List ℕ → List ℕ → List ℕ → Entry → Bool
-uncausedBy held filled took e =
-    ltb 0 (getD held (e .queue) 0) && leb (getD filled (e .queue) 0) (2 * e .start)
-    && not (any (λ p. not (eqb p (e .process)) && ltb (2 * e .start) (getD took (8 * e .queue + p) 0)) 8)
+abbrev pub uncausedBy : List ℕ → Entry → Bool
+uncausedBy l e =
+    leb 65536 (getD l (e .queue) 0) && leb (getD l (e .queue) 0 % 65536) (2 * e .start) && not (otherTook l (e .queue) (e .process) (2 * e .start) 8)
 
 -- rules 1 and 3 are kept, ends rise, and the keys are those of the entries
 pub record Clean (f : ℕ → Entry) (n : ℕ) (keys : List ℕ) (count : ℕ) : Type 0 where
