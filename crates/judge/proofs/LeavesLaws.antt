@@ -17,23 +17,30 @@ use Rattle.rules.specs.Left.{afterAll, leftIn, unordered, leftOf, Leaves}
 use Rattle.rules.proofs.ContentLaws.{before-start}
 use Rattle.rules.proofs.LeftLaws.{left-for-good, InOrder, in-order}
 use Rattle.judge.specs.inner.Order.{indexAt, instant, Ordered}
-use Rattle.judge.specs.inner.Replay.{loAfter, hiAfter, LiesIn}
+use Rattle.judge.specs.inner.Replay.{loOf, hiOf, heldIn, endsAfter, LiesIn}
 use Rattle.judge.proofs.ReplayLaws.{still, other-is, own-is}
 use Rattle.judge.proofs.RowLaws.{moved-is, bounds}
 
 -- after the first k moments
-pub record Lying (f : ℕ → Entry) (n : ℕ) (keys : List ℕ) (k q : ℕ) (row : List ℕ) (lo hi : ℕ) : Type 0 where
-  pub holds : slice lo hi row ≡ before f n q (instant keys k)
-  pub low : lo ≤ hi
-  pub high : hi ≤ k
+pub record Lying (f : ℕ → Entry) (n : ℕ) (keys : List ℕ) (k q : ℕ) (row : List ℕ) (s : ℕ) : Type 0 where
+  pub holds : slice (loOf s) (hiOf s) row ≡ before f n q (instant keys k)
+  pub low : loOf s ≤ hiOf s
+  pub high : hiOf s ≤ k
   pub long : length row ≡ 256
 
-pub lying-start : (f : ℕ → Entry) (n : ℕ) (keys : List ℕ) (q : ℕ) (row : List ℕ) → length row ≡ 256 → Lying f n keys 0 q row 0 0
+pub lying-start : (f : ℕ → Entry) (n : ℕ) (keys : List ℕ) (q : ℕ) (row : List ℕ) → length row ≡ 256 → Lying f n keys 0 q row 0
 lying-start f n keys q row h = record { holds = slice-empty 0 row ∙ sym (before-start f n q); low = omega arith; high = omega arith; long = h }
 
-module _ (f : ℕ → Entry) (n : ℕ) (keys : List ℕ) (count : ℕ) (o : Ordered f n keys count) (q : ℕ) (row : List ℕ) (lo hi : ℕ) where
-  module _ (k : ℕ) (u : k < count) (h : Lying f n keys k q row lo hi) (e : Entry) (is : e ≡ f (indexAt keys k)) where
-    pub lying-other : (e .queue ≡ q → ⊥) → Lying f n keys (k + 1) q row lo hi
+-- a row that begins at 0
+from-0 : (row : List ℕ) (s : ℕ) → heldIn row 0 s ≡ slice (loOf s) (hiOf s) row
+from-0 row s =
+    let a : 0 + loOf s ≡ loOf s = omega arith in
+    let b : 0 + hiOf s ≡ hiOf s = omega arith in
+    ap (λ (i : ℕ). slice i (0 + hiOf s) row) a ∙ ap (λ (i : ℕ). slice (loOf s) i row) b
+
+module _ (f : ℕ → Entry) (n : ℕ) (keys : List ℕ) (count : ℕ) (o : Ordered f n keys count) (q : ℕ) (row : List ℕ) (s : ℕ) where
+  module _ (k : ℕ) (u : k < count) (h : Lying f n keys k q row s) (e : Entry) (is : e ≡ f (indexAt keys k)) where
+    pub lying-other : (e .queue ≡ q → ⊥) → Lying f n keys (k + 1) q row s
     lying-other ne = record {
       holds = h .holds ∙ sym (other-is f n keys count o q k u (λ d. ne (ap (λ (x : Entry). x .queue) is ∙ d)))
           ∙ ap (λ (x : ℕ). before f n q (instant keys x)) (sym (add-one k));
@@ -42,22 +49,28 @@ module _ (f : ℕ → Entry) (n : ℕ) (keys : List ℕ) (count : ℕ) (o : Orde
       long = h .long;
     }
 
-    pub lying-own : e .queue ≡ q → hi < length row → Lying f n keys (k + 1) q (set row hi (e .node)) (loAfter (what e) lo hi) (hiAfter (what e) lo hi)
-    lying-own d room = let b = bounds (what e) lo hi (h .low) in record {
-      holds = moved-is (what e) row lo hi (e .node) (h .low) room ∙ ap (applied (what e) (e .node)) (h .holds) ∙ sym after
+    pub lying-own : e .queue ≡ q → hiOf s < 256 → Lying f n keys (k + 1) q (set row (hiOf s) (e .node)) (endsAfter (what e) s)
+    lying-own d room = let b = bounds (what e) s (h .low) (omega arith) in record {
+      holds = sym (from-0 (set row (hiOf s) (e .node)) (endsAfter (what e) s))
+          ∙ ap (λ (i : ℕ). heldIn (set row i (e .node)) 0 (endsAfter (what e) s)) zero-plus
+          ∙ moved-is row 0 s (e .node) (h .low) (omega (arith, h .long)) (omega arith) (what e)
+          ∙ ap (applied (what e) (e .node)) (from-0 row s ∙ h .holds) ∙ sym after
           ∙ ap (λ (x : ℕ). before f n q (instant keys x)) (sym (add-one k));
       low = b .low;
       high = omega (arith, b .high, h .high);
-      long = length-set row hi (e .node) ∙ h .long;
+      long = length-set row (hiOf s) (e .node) ∙ h .long;
     }
       where
+        zero-plus : hiOf s ≡ 0 + hiOf s
+        zero-plus = omega arith
+
         after : before f n q (instant keys (suc k)) ≡ applied (what e) (e .node) (before f n q (instant keys k))
         after = subst (λ (x : Entry). x .queue ≡ q → before f n q (instant keys (suc k)) ≡ applied (what x) (x .node) (before f n q (instant keys k))) (sym is)
             (λ c. subst (λ (p : ℕ). before f n p (instant keys (suc k)) ≡ applied (what (f (indexAt keys k))) (f (indexAt keys k) .node) (before f n p (instant keys k))) c
             (own-is f n keys count o k u)) d
 
   -- after all moments
-  pub lies : n ≤ 256 → Lying f n keys count q row lo hi → LiesIn f n q row lo hi
+  pub lies : n ≤ 256 → Lying f n keys count q row s → LiesIn f n q row (loOf s) (hiOf s)
   lies small h = record {
     holds = h .holds ∙ sym (still f n keys count o q count (instant keys count + afterAll f n) (omega arith) (λ u. absurd (omega arith)) (omega arith))
         ∙ left-for-good f n q (instant keys count + afterAll f n) (omega arith);

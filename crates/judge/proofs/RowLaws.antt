@@ -1,14 +1,14 @@
 -- The replay of all queues in rows of one width: what a call makes of its row, and one turn.
 use mathlib.Core.Path.{_≡_, refl, sym, ap, _∙_, subst}
 use mathlib.Core.Bool.{Bool, true, false, cond, _&&_, not, and-false}
-use mathlib.Core.List.{List, [], _∷_}
-use Prim.Native.Nat.{ℕ, zero, suc, _+_, _-_, _*_, _≤_, _<_}
+use mathlib.Core.List.{List}
+use Prim.Native.Nat.{ℕ, suc, _+_, _-_, _*_, _^_, _≤_, _<_}
 use native.Mathlib.Nat.{mul-suc, mul-le-mul-left}
 use native.Mathlib.Omega.{arith}
 use native.Mathlib.Decide.{ℕ-discrete, decLt}
 use borrow.Author.Tests.{lt-ltb, ltb-true, eq-eqb, eqb-true, leb-true, leb-false}
 use lib.Dec.{eqb, ltb, leb}
-use lib.ListN.{length, getD, set, take, drop, length-set}
+use lib.ListN.{length, getD, set, take, drop, replicate, length-set}
 use lib.Seq.{slice, getD-set-same, getD-set-other, take-set-le, take-set-lt, drop-set-lt}
 use Rattle.log.specs.declared.Entry.{Entry}
 use Rattle.log.specs.declared.What.{What}
@@ -17,13 +17,14 @@ use Rattle.log.specs.Numbers.{what, same, bearsMoment}
 use Rattle.log.proofs.NumbersLaws.{same-true}
 use Rattle.rules.specs.Search.{any}
 use Rattle.rules.specs.Contents.{bears, before, applied}
-use Rattle.rules.specs.Rules.{addedBefore, fresh, lawful, lawfulAt, breaks4}
+use Rattle.rules.specs.Rules.{addedBefore, lawful, lawfulAt, breaks4}
 use Rattle.base.proofs.Bools.{contra, and-i, and-0, and-1, by-both}
 use Rattle.rules.proofs.SearchLaws.{Found, any-e, any-i}
+use Rattle.judge.proofs.EndLaws.{zeros}
 use Rattle.judge.proofs.DequeLaws.{content-push, content-bottom, content-top, content-none, none-bottom, none-top}
 use Rattle.rules.proofs.ContentLaws.{before-start}
 use Rattle.judge.specs.inner.Order.{indexAt, instant, Fields, Ordered}
-use Rattle.judge.specs.inner.Replay.{loAfter, hiAfter}
+use Rattle.judge.specs.inner.Replay.{newIn, loOf, hiOf, heldIn, endsAfter}
 use Rattle.judge.proofs.ReplayLaws.{event-of, passed-back, now-is, other-is, own-is}
 
 module _ (l : List ℕ) (lo hi i v : ℕ) where
@@ -38,62 +39,66 @@ module _ (l : List ℕ) (lo hi i v : ℕ) where
       split (yes p) = ap (drop lo) (take-set-lt hi l i v p) ∙ drop-set-lt lo (take hi l) i v h
       split (no p) = past (omega arith)
 
-pub moved-is : (w : What) (l : List ℕ) (lo hi v : ℕ) → lo ≤ hi → hi < length l
-    → slice (loAfter w lo hi) (hiAfter w lo hi) (set l hi v) ≡ applied w v (slice lo hi l)
-moved-is Pushed l lo hi v h k = content-push l lo hi v h k
-moved-is Full l lo hi v h k = past l lo hi hi v (omega arith)
-moved-is BottomNode l lo hi v h k = split (leb hi lo) refl
-  where
-    split : (t : Bool) → leb hi lo ≡ t → slice lo (cond t hi (hi - 1)) (set l hi v) ≡ applied BottomNode v (slice lo hi l)
-    split true e = past l lo hi hi v (omega arith) ∙ none-bottom l lo hi (leb-true hi lo e)
-    split false e = past l lo (hi - 1) hi v (omega arith) ∙ content-bottom l lo hi (omega (arith, leb-false hi lo e)) (omega arith)
-moved-is BottomNil l lo hi v h k = past l lo hi hi v (omega arith)
-moved-is TopNode l lo hi v h k = split (leb hi lo) refl
-  where
-    split : (t : Bool) → leb hi lo ≡ t → slice (cond t lo (lo + 1)) hi (set l hi v) ≡ applied TopNode v (slice lo hi l)
-    split true e = past l lo hi hi v (omega arith) ∙ none-top l lo hi (leb-true hi lo e)
-    split false e = past l (lo + 1) hi hi v (omega arith) ∙ content-top l lo hi (omega (arith, leb-false hi lo e)) (omega arith)
-moved-is TopNil l lo hi v h k = past l lo hi hi v (omega arith)
-moved-is TopLost l lo hi v h k = past l lo hi hi v (omega arith)
-
 -- the ends after a call, by the ends before
-pub record Bounds (w : What) (lo hi : ℕ) : Type 0 where
-  pub from : lo ≤ loAfter w lo hi
-  pub low : loAfter w lo hi ≤ hiAfter w lo hi
-  pub high : hiAfter w lo hi ≤ hi + 1
+pub record Bounds (w : What) (s : ℕ) : Type 0 where
+  pub low : loOf (endsAfter w s) ≤ hiOf (endsAfter w s)
+  pub high : hiOf (endsAfter w s) ≤ hiOf s + 1
 
-pub bounds : (w : What) (lo hi : ℕ) → lo ≤ hi → Bounds w lo hi
-bounds Pushed lo hi h = record { from = omega arith; low = omega arith; high = omega arith }
-bounds Full lo hi h = record { from = omega arith; low = omega arith; high = omega arith }
-bounds BottomNode lo hi h = split (leb hi lo) refl
+module _ (l : List ℕ) (row s v : ℕ) (low : loOf s ≤ hiOf s) (room : row + hiOf s < length l) (small : hiOf s < 65535) where
+  abbrev lo : ℕ
+  lo = row + loOf s
+
+  abbrev hi : ℕ
+  hi = row + hiOf s
+
+  -- the ends are z after the call: from x up to y
+  ends-at : (z x y : ℕ) → row + loOf z ≡ x → row + hiOf z ≡ y → heldIn (set l hi v) row z ≡ slice x y (set l hi v)
+  ends-at z x y a b = ap (λ (i : ℕ). slice i (row + hiOf z) (set l hi v)) a ∙ ap (λ (i : ℕ). slice x i (set l hi v)) b
+
+  pub moved-is : (w : What) → heldIn (set l hi v) row (endsAfter w s) ≡ applied w v (heldIn l row s)
+  moved-is Pushed = ends-at (s + 65536) lo (hi + 1) (omega arith) (omega arith) ∙ content-push l lo hi v (omega arith) room
+  moved-is Full = past l lo hi hi v (omega arith)
+  moved-is BottomNode = split (leb (hiOf s) (loOf s)) refl
+    where
+      split : (t : Bool) → leb (hiOf s) (loOf s) ≡ t → heldIn (set l hi v) row (cond t s (s - 65536)) ≡ applied BottomNode v (heldIn l row s)
+      split true e = past l lo hi hi v (omega arith) ∙ none-bottom l lo hi (omega (arith, leb-true (hiOf s) (loOf s) e))
+      split false e =
+          let k = leb-false (hiOf s) (loOf s) e in
+          ends-at (s - 65536) lo (hi - 1) (omega arith) (omega arith) ∙ past l lo (hi - 1) hi v (omega arith)
+          ∙ content-bottom l lo hi (omega arith) (omega arith)
+  moved-is BottomNil = past l lo hi hi v (omega arith)
+  moved-is TopNode = split (leb (hiOf s) (loOf s)) refl
+    where
+      split : (t : Bool) → leb (hiOf s) (loOf s) ≡ t → heldIn (set l hi v) row (cond t s (s + 1)) ≡ applied TopNode v (heldIn l row s)
+      split true e = past l lo hi hi v (omega arith) ∙ none-top l lo hi (omega (arith, leb-true (hiOf s) (loOf s) e))
+      split false e =
+          let k = leb-false (hiOf s) (loOf s) e in
+          ends-at (s + 1) (lo + 1) hi (omega arith) (omega arith) ∙ past l (lo + 1) hi hi v (omega arith)
+          ∙ content-top l lo hi (omega arith) (omega arith)
+  moved-is TopNil = past l lo hi hi v (omega arith)
+  moved-is TopLost = past l lo hi hi v (omega arith)
+
+pub bounds : (w : What) (s : ℕ) → loOf s ≤ hiOf s → hiOf s < 65535 → Bounds w s
+bounds Pushed s h g = record { low = omega arith; high = omega arith }
+bounds Full s h g = record { low = omega arith; high = omega arith }
+bounds BottomNode s h g = split (leb (hiOf s) (loOf s)) refl
   where
-    split : (t : Bool) → leb hi lo ≡ t → Bounds BottomNode lo hi
-    split true e = record { from = omega arith; low = rw e h; high = rw e (omega arith) }
-    split false e = let k = leb-false hi lo e in record { from = omega arith; low = rw e (omega arith); high = rw e (omega arith) }
-bounds BottomNil lo hi h = record { from = omega arith; low = omega arith; high = omega arith }
-bounds TopNode lo hi h = split (leb hi lo) refl
+    split : (t : Bool) → leb (hiOf s) (loOf s) ≡ t → Bounds BottomNode s
+    split true e = record { low = rw e h; high = rw e (omega arith) }
+    split false e = let k = leb-false (hiOf s) (loOf s) e in record { low = rw e (omega arith); high = rw e (omega arith) }
+bounds BottomNil s h g = record { low = omega arith; high = omega arith }
+bounds TopNode s h g = split (leb (hiOf s) (loOf s)) refl
   where
-    split : (t : Bool) → leb hi lo ≡ t → Bounds TopNode lo hi
-    split true e = record { from = rw e (omega arith); low = rw e h; high = omega arith }
-    split false e = let k = leb-false hi lo e in record { from = rw e (omega arith); low = rw e (omega arith); high = omega arith }
-bounds TopNil lo hi h = record { from = omega arith; low = omega arith; high = omega arith }
-bounds TopLost lo hi h = record { from = omega arith; low = omega arith; high = omega arith }
+    split : (t : Bool) → leb (hiOf s) (loOf s) ≡ t → Bounds TopNode s
+    split true e = record { low = rw e h; high = rw e (omega arith) }
+    split false e = let k = leb-false (hiOf s) (loOf s) e in record { low = rw e (omega arith); high = rw e (omega arith) }
+bounds TopNil s h g = record { low = omega arith; high = omega arith }
+bounds TopLost s h g = record { low = omega arith; high = omega arith }
 
--- only a push asks whether its node is new
-pub lawful-new : (w : What) (s t : Bool) (v : ℕ) (c : List ℕ) → (w ≡ Pushed → s ≡ t) → lawful s w v c ≡ lawful t w v c
-lawful-new Pushed s t v c h = h refl
-lawful-new Full s t v c h = refl
-lawful-new BottomNode s t v c h = refl
-lawful-new BottomNil s t v c h = refl
-lawful-new TopNode s t v c h = refl
-lawful-new TopNil s t v c h = refl
-lawful-new TopLost s t v c h = refl
-
-pub record Row (f : ℕ → Entry) (n : ℕ) (keys : List ℕ) (width k : ℕ) (nodes : List ℕ) (q lo hi : ℕ) : Type 0 where
-  pub holds : slice lo hi nodes ≡ before f n q (instant keys k)
-  pub from : width * q ≤ lo
-  pub low : lo ≤ hi
-  pub high : hi ≤ width * q + k
+pub record Row (f : ℕ → Entry) (n : ℕ) (keys : List ℕ) (width k : ℕ) (nodes : List ℕ) (q s : ℕ) : Type 0 where
+  pub holds : heldIn nodes (width * q) s ≡ before f n q (instant keys k)
+  pub low : loOf s ≤ hiOf s
+  pub high : hiOf s ≤ k
 
 abbrev pub isPush : (ℕ → Entry) → List ℕ → ℕ → Bool
 isPush f keys a = same Pushed (what (f (indexAt keys a)))
@@ -105,43 +110,27 @@ pub record Added (f : ℕ → Entry) (keys : List ℕ) (width k : ℕ) (added : 
   pub sound : (i : ℕ) → i < c → Found (λ a. isPush f keys a && eqb (f (indexAt keys a) .node) (getD added i 0)) k
   pub all : (a : ℕ) → a < k → isPush f keys a ≡ true → Found (λ i. eqb (getD added i 0) (f (indexAt keys a) .node)) c
 
-pub record Replayed (f : ℕ → Entry) (n : ℕ) (keys : List ℕ) (width k : ℕ) (nodes lo hi added : List ℕ) (c : ℕ) : Type 0 where
+pub record Replayed (f : ℕ → Entry) (n : ℕ) (keys : List ℕ) (width k : ℕ) (nodes ends added : List ℕ) (c : ℕ) : Type 0 where
   pub nodes-long : length nodes ≡ 8 * width
-  pub lo-long : length lo ≡ 8
-  pub hi-long : length hi ≡ 8
-  pub row : (q : ℕ) → q < 8 → Row f n keys width k nodes q (getD lo q 0) (getD hi q 0)
+  pub ends-long : length ends ≡ 8
+  pub row : (q : ℕ) → q < 8 → Row f n keys width k nodes q (getD ends q 0)
   pub pushes : Added f keys width k added c
   pub fine : (a : ℕ) → a < k → breaks4 f n (indexAt keys a) ≡ false
-
-abbrev pub rows : ℕ → List ℕ
-rows width = 0 ∷ width ∷ 2 * width ∷ 3 * width ∷ 4 * width ∷ 5 * width ∷ 6 * width ∷ 7 * width ∷ []
-
-row-at : (width q : ℕ) → q < 8 → getD (rows width) q 0 ≡ width * q
-row-at width zero u = omega arith
-row-at width (suc zero) u = omega arith
-row-at width (suc (suc zero)) u = omega arith
-row-at width (suc (suc (suc zero))) u = omega arith
-row-at width (suc (suc (suc (suc zero)))) u = omega arith
-row-at width (suc (suc (suc (suc (suc zero))))) u = omega arith
-row-at width (suc (suc (suc (suc (suc (suc zero)))))) u = omega arith
-row-at width (suc (suc (suc (suc (suc (suc (suc zero))))))) u = omega arith
-row-at width (suc (suc (suc (suc (suc (suc (suc (suc q)))))))) u = absurd (omega arith)
 
 -- a row ends before a later one begins
 rows-apart : (width p q : ℕ) → p < q → width * p + width ≤ width * q
 rows-apart width p q u = omega (arith, mul-suc width p, mul-le-mul-left {m = suc p} {n = q} width (omega arith))
 
 pub replay-start : (f : ℕ → Entry) (n : ℕ) (keys : List ℕ) (width : ℕ) (nodes added : List ℕ) → length nodes ≡ 8 * width → length added ≡ width
-    → Replayed f n keys width 0 nodes (rows width) (rows width) added 0
+    → Replayed f n keys width 0 nodes (replicate 8 0) added 0
 replay-start f n keys width nodes added h g = record {
   nodes-long = h;
-  lo-long = refl;
-  hi-long = refl;
-  row = λ q u. let e = row-at width q u in record {
-    holds = content-none nodes (getD (rows width) q 0) (getD (rows width) q 0) (omega arith) ∙ sym (before-start f n q);
-    from = omega arith;
-    low = omega arith;
-    high = omega arith;
+  ends-long = refl;
+  row = λ q u. let e = zeros 8 q in record {
+    holds = content-none nodes (width * q + loOf (getD (replicate 8 0) q 0)) (width * q + hiOf (getD (replicate 8 0) q 0)) (omega (arith, e))
+        ∙ sym (before-start f n q);
+    low = omega (arith, e);
+    high = omega (arith, e);
   };
   pushes = record { long = g; few = omega arith; sound = λ i u. absurd (omega arith); all = λ a u t. absurd (omega arith) };
   fine = λ a u. absurd (omega arith);
@@ -243,92 +232,77 @@ module _ (f : ℕ → Entry) (n : ℕ) (keys : List ℕ) (count : ℕ) (o : Orde
             let ne : z .at ≡ c → ⊥ = λ g. omega (arith, z .below) in
             record { at = z .at; below = omega (arith, z .below); passes = rw (getD-set-other added c (z .at) (f j .node) 0 ne) (z .passes) }
 
-  module _ (width : ℕ) (nodes lo hi added : List ℕ) (c : ℕ) (s : Replayed f n keys width k nodes lo hi added c) (fits : n ≤ width) (fields : Fields f n) where
+  module _ (width : ℕ) (nodes ends added : List ℕ) (c : ℕ) (s : Replayed f n keys width k nodes ends added c) (fits : n ≤ width) (small : width ≤ 256)
+      (fields : Fields f n) where
     abbrev q : ℕ
     q = f j .queue
 
-    abbrev l : ℕ
-    l = getD lo q 0
-
-    abbrev h : ℕ
-    h = getD hi q 0
+    abbrev at : ℕ
+    at = getD ends q 0
 
     pub queue-low : q < 8
     queue-low = fields j (o .index k inside) .queue
 
-    pub hi-low : h < 8 * width
-    hi-low = omega (arith, s .row q queue-low .high, rows-apart width q 8 queue-low, o .few)
+    abbrev mine : Row f n keys width k nodes q at
+    mine = s .row q queue-low
+
+    pub hi-low : width * q + hiOf at < 8 * width
+    hi-low = omega (arith, mine .high, rows-apart width q 8 queue-low, o .few)
 
     pub added-low : c < width
     added-low = omega (arith, s .pushes .few, o .few)
 
-    pub ok-is : (old push : Bool) → push ≡ isPush f keys k → old ≡ any (λ i. eqb (getD added i 0) (f j .node)) (cond push c 0)
-        → lawful (not old) (what (f j)) (f j .node) (slice l h nodes) ≡ lawfulAt f n (f j)
-    ok-is old push p e =
-        ap (λ (d : List ℕ). lawful (not old) (what (f j)) (f j .node) d)
-        (s .row q queue-low .holds ∙ sym (now-is f n keys count o q k inside) ∙ ap (before f n q) (sym (o .moment k inside)))
-        ∙ lawful-new (what (f j)) (not old) (fresh f n (f j)) (f j .node) (before f n q (f j .moment)) (λ w.
-        ap not (e ∙ ap (λ (t : Bool). any (λ i. eqb (getD added i 0) (f j .node)) (cond t c 0)) (p ∙ ap (same Pushed) w)
-        ∙ fresh-is width added c (s .pushes)))
+    pub ok-is : lawful (newIn added c (f j .node)) (what (f j)) (f j .node) (heldIn nodes (width * q) at) ≡ lawfulAt f n (f j)
+    ok-is =
+        ap (λ (d : List ℕ). lawful (newIn added c (f j .node)) (what (f j)) (f j .node) d)
+        (mine .holds ∙ sym (now-is f n keys count o q k inside) ∙ ap (before f n q) (sym (o .moment k inside)))
+        ∙ ap (λ (t : Bool). lawful (not t) (what (f j)) (f j .node) (before f n q (f j .moment))) (fresh-is width added c (s .pushes))
 
-    rows-next : (x : ℕ) → x < 8 → Dec (x ≡ q)
-        → Row f n keys width (k + 1) (set nodes h (f j .node)) x (getD (set lo q (loAfter (what (f j)) l h)) x 0)
-        (getD (set hi q (hiAfter (what (f j)) l h)) x 0)
+    abbrev nodes₁ : List ℕ
+    nodes₁ = set nodes (width * q + hiOf at) (f j .node)
+
+    abbrev ends₁ : List ℕ
+    ends₁ = set ends q (endsAfter (what (f j)) at)
+
+    step : suc k ≡ k + 1
+    step = omega arith
+
+    rows-next : (x : ℕ) → x < 8 → Dec (x ≡ q) → Row f n keys width (k + 1) nodes₁ x (getD ends₁ x 0)
     rows-next x u (yes e) =
-        let r = s .row q queue-low in
-        let b = bounds (what (f j)) l h (r .low) in
-        let e1 : getD (set lo q (loAfter (what (f j)) l h)) x 0 ≡ loAfter (what (f j)) l h = ap
-        (λ (y : ℕ). getD (set lo q (loAfter (what (f j)) l h)) y 0) e
-        ∙ getD-set-same lo q (loAfter (what (f j)) l h) 0 (omega (arith, s .lo-long, queue-low)) in
-        let e2 : getD (set hi q (hiAfter (what (f j)) l h)) x 0 ≡ hiAfter (what (f j)) l h = ap
-        (λ (y : ℕ). getD (set hi q (hiAfter (what (f j)) l h)) y 0) e
-        ∙ getD-set-same hi q (hiAfter (what (f j)) l h) 0 (omega (arith, s .hi-long, queue-low)) in
-        record {
-          holds = ap (λ (y : ℕ). slice y (getD (set hi q (hiAfter (what (f j)) l h)) x 0) (set nodes h (f j .node))) e1
-              ∙ ap (λ (y : ℕ). slice (loAfter (what (f j)) l h) y (set nodes h (f j .node))) e2
-              ∙ moved-is (what (f j)) nodes l h (f j .node) (r .low) (omega (arith, hi-low, s .nodes-long))
-              ∙ ap (λ (d : List ℕ). applied (what (f j)) (f j .node) d) (r .holds) ∙ sym (own-is f n keys count o k inside)
-              ∙ ap (λ (y : ℕ). before f n y (instant keys (suc k))) (sym e) ∙ ap (λ (y : ℕ). before f n x (instant keys y)) step;
-          from = omega (arith, b .from, r .from, ap (λ (y : ℕ). width * y) e);
-          low = omega (arith, b .low);
-          high = omega (arith, b .high, r .high, ap (λ (y : ℕ). width * y) e);
-        }
-      where
-        step : suc k ≡ k + 1
-        step = omega arith
+        let b = bounds (what (f j)) at (mine .low) (omega (arith, mine .high, o .few)) in
+        let z : getD ends₁ q 0 ≡ endsAfter (what (f j)) at =
+        getD-set-same ends q (endsAfter (what (f j)) at) 0 (omega (arith, s .ends-long, queue-low)) in
+        subst (λ (y : ℕ). Row f n keys width (k + 1) nodes₁ y (getD ends₁ y 0)) (sym e)
+        (subst (λ (y : ℕ). Row f n keys width (k + 1) nodes₁ q y) (sym z) (record {
+          holds = moved-is nodes (width * q) at (f j .node) (mine .low) (omega (arith, hi-low, s .nodes-long)) (omega (arith, mine .high, o .few)) (what (f j))
+              ∙ ap (λ (d : List ℕ). applied (what (f j)) (f j .node) d) (mine .holds) ∙ sym (own-is f n keys count o k inside)
+              ∙ ap (λ (y : ℕ). before f n q (instant keys y)) step;
+          low = b .low;
+          high = omega (arith, b .high, mine .high);
+        }))
     rows-next x u (no e) =
         let r = s .row x u in
-        let g = s .row q queue-low in
-        let e1 : getD (set lo q (loAfter (what (f j)) l h)) x 0 ≡ getD lo x 0 = getD-set-other lo q x (loAfter (what (f j)) l h) 0 e in
-        let e2 : getD (set hi q (hiAfter (what (f j)) l h)) x 0 ≡ getD hi x 0 = getD-set-other hi q x (hiAfter (what (f j)) l h) 0 e in
-        record {
-          holds = ap (λ (y : ℕ). slice y (getD (set hi q (hiAfter (what (f j)) l h)) x 0) (set nodes h (f j .node))) e1
-              ∙ ap (λ (y : ℕ). slice (getD lo x 0) y (set nodes h (f j .node))) e2
-              ∙ apart (decLt x q) ∙ r .holds ∙ sym (other-is f n keys count o x k inside (λ t. e (sym t)))
+        subst (λ (y : ℕ). Row f n keys width (k + 1) nodes₁ x y) (sym (getD-set-other ends q x (endsAfter (what (f j)) at) 0 e)) (record {
+          holds = apart (decLt x q) ∙ r .holds ∙ sym (other-is f n keys count o x k inside (λ t. e (sym t)))
               ∙ ap (λ (y : ℕ). before f n x (instant keys y)) step;
-          from = omega (arith, r .from);
-          low = omega (arith, r .low);
+          low = r .low;
           high = omega (arith, r .high);
-        }
+        })
       where
-        step : suc k ≡ k + 1
-        step = omega arith
-
-        apart : Dec (x < q) → slice (getD lo x 0) (getD hi x 0) (set nodes h (f j .node)) ≡ slice (getD lo x 0) (getD hi x 0) nodes
-        apart (yes p) = past nodes (getD lo x 0) (getD hi x 0) h (f j .node)
-            (omega (arith, s .row x u .high, s .row q queue-low .from, s .row q queue-low .low, rows-apart width x q p, o .few))
-        apart (no p) = ahead nodes (getD lo x 0) (getD hi x 0) h (f j .node) (omega (arith, s .row x u .from, s .row q queue-low .high, rows-apart width q x (omega arith), o .few))
+        apart : Dec (x < q) → heldIn nodes₁ (width * x) (getD ends x 0) ≡ heldIn nodes (width * x) (getD ends x 0)
+        apart (yes p) = past nodes (width * x + loOf (getD ends x 0)) (width * x + hiOf (getD ends x 0)) (width * q + hiOf at) (f j .node)
+            (omega (arith, s .row x u .high, rows-apart width x q p, o .few))
+        apart (no p) = ahead nodes (width * x + loOf (getD ends x 0)) (width * x + hiOf (getD ends x 0)) (width * q + hiOf at) (f j .node)
+            (omega (arith, mine .high, rows-apart width q x (omega arith), o .few))
 
     -- one turn, of a lawful call
-    pub replay-next : (push : Bool) → push ≡ isPush f keys k → lawfulAt f n (f j) ≡ true
-        → Replayed f n keys width (k + 1) (set nodes h (f j .node)) (set lo q (loAfter (what (f j)) l h)) (set hi q (hiAfter (what (f j)) l h))
-        (set added c (f j .node)) (cond push (c + 1) c)
-    replay-next push p ok = record {
+    replay-next : lawfulAt f n (f j) ≡ true
+        → Replayed f n keys width (k + 1) nodes₁ ends₁ (set added c (f j .node)) (cond (isPush f keys k) (c + 1) c)
+    replay-next ok = record {
       nodes-long = simp length-set (s .nodes-long);
-      lo-long = simp length-set (s .lo-long);
-      hi-long = simp length-set (s .hi-long);
+      ends-long = simp length-set (s .ends-long);
       row = λ x u. rows-next x u (ℕ-discrete x q);
-      pushes = added-next width added c (s .pushes) push p added-low;
+      pushes = added-next width added c (s .pushes) (isPush f keys k) refl added-low;
       fine = λ a u. fine a u (ℕ-discrete a k);
     }
       where
@@ -342,34 +316,13 @@ module _ (f : ℕ → Entry) (n : ℕ) (keys : List ℕ) (count : ℕ) (o : Orde
     -- the same of an entry e that was read, as the code has it
     pub record Told (e : Entry) : Type 0 where
       pub queue : e .queue < 8
-      pub low : getD lo (e .queue) 0 ≤ getD hi (e .queue) 0
-      pub high : getD hi (e .queue) 0 < 8 * width
+      pub high : width * e .queue + hiOf (getD ends (e .queue) 0) < 8 * width
+      pub few : getD ends (e .queue) 0 < 2 ^ 25
+      pub ok : lawful (newIn added c (e .node)) (what e) (e .node) (heldIn nodes (width * e .queue) (getD ends (e .queue) 0)) ≡ lawfulAt f n (f j)
+      pub turn : lawfulAt f n (f j) ≡ true → Replayed f n keys width (k + 1)
+          (set nodes (width * e .queue + hiOf (getD ends (e .queue) 0)) (e .node)) (set ends (e .queue) (endsAfter (what e) (getD ends (e .queue) 0)))
+          (set added c (e .node)) (cond (same Pushed (what e)) (c + 1) c)
 
     pub told : (e : Entry) → e ≡ f j → Told e
-    told e e₁ = subst Told (sym e₁) (record { queue = queue-low; low = s .row q queue-low .low; high = hi-low })
-
-    pub ok-told : (e : Entry) → e ≡ f j → (did : What) (push old ok : Bool) (m : ℕ) → did ≡ what e → push ≡ same Pushed (what e) → m ≡ cond push c 0
-        → old ≡ any (λ i. eqb (getD added i 0) (e .node)) m → ok ≡ lawful (not old) did (e .node)
-        (slice (getD lo (e .queue) 0) (getD hi (e .queue) 0) nodes) → ok ≡ lawfulAt f n (f j)
-    ok-told e e₁ = subst (λ (e : Entry). (did : What) (push old ok : Bool) (m : ℕ) → did ≡ what e → push ≡ same Pushed (what e) → m ≡ cond push c 0
-        → old ≡ any (λ i. eqb (getD added i 0) (e .node)) m → ok ≡ lawful (not old) did (e .node)
-        (slice (getD lo (e .queue) 0) (getD hi (e .queue) 0) nodes) → ok ≡ lawfulAt f n (f j))
-        (sym e₁)
-        (λ did push old ok m e₂ e₃ e₄ e₅ e₆. e₆ ∙ ap (λ (w : What). lawful (not old) w (f j .node) (slice l h nodes)) e₂
-        ∙ ok-is old push e₃ (e₅ ∙ ap (any (λ i. eqb (getD added i 0) (f j .node))) e₄))
-
-    pub turn-told : (e : Entry) → e ≡ f j → (did : What) (push : Bool) (a b d : ℕ) → did ≡ what e → push ≡ same Pushed (what e)
-        → a ≡ loAfter did (getD lo (e .queue) 0) (getD hi (e .queue) 0) → b ≡ hiAfter did (getD lo (e .queue) 0) (getD hi (e .queue) 0)
-        → d ≡ cond push (c + 1) c → lawfulAt f n (f j) ≡ true
-        → Replayed f n keys width (k + 1) (set nodes (getD hi (e .queue) 0) (e .node)) (set lo (e .queue) a) (set hi (e .queue) b) (set added c (e .node)) d
-    turn-told e e₁ = subst (λ (e : Entry). (did : What) (push : Bool) (a b d : ℕ) → did ≡ what e → push ≡ same Pushed (what e)
-        → a ≡ loAfter did (getD lo (e .queue) 0) (getD hi (e .queue) 0) → b ≡ hiAfter did (getD lo (e .queue) 0) (getD hi (e .queue) 0)
-        → d ≡ cond push (c + 1) c → lawfulAt f n (f j) ≡ true
-        → Replayed f n keys width (k + 1) (set nodes (getD hi (e .queue) 0) (e .node)) (set lo (e .queue) a) (set hi (e .queue) b) (set added c (e .node))
-        d)
-        (sym e₁)
-        (λ did push a b d e₂ e₃ e₄ e₅ e₆ ok. rw (e₄, e₅, e₆, e₂) (replay-next push e₃ ok))
-
-pub only-le : (t : Bool) (c d m : ℕ) → d ≡ cond t c 0 → c ≤ m → d ≤ m
-only-le true c d m e h = omega arith
-only-le false c d m e h = omega arith
+    told e e₁ = subst Told (sym e₁)
+        (record { queue = queue-low; high = hi-low; few = omega (arith, mine .high, mine .low, o .few); ok = ok-is; turn = replay-next })

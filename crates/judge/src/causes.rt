@@ -43,7 +43,11 @@ fn shelf_after(e: Entry, shelf: u32) -> u32
 fn took_after(e: Entry, took: u32) -> u32
     ensures { λ r. ⌜ r ≡ tookAfter e took ⌝ }
 {
-    if took_top(e) { e.moment as u32 + 1 } else { took }
+    if took_top(e) {
+        e.moment as u32 + 1
+    } else {
+        took
+    }
 }
 
 // Goes past entry i, whose moment is the next. Queue q's shelf lies at q, and at 8 + 8 * q + p the moment after process p's last take from it.

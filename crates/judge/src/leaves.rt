@@ -7,12 +7,16 @@ ghost use Rattle.log.specs.Decode.{entryAt};
 ghost use Rattle.rules.specs.Left.{Leaves};
 ghost use Rattle.judge.specs.inner.Order.{Ordered, Whole};
 ghost use Rattle.judge.specs.inner.Replay.{LiesIn};
-use crate::fields::what;
 use crate::judge;
 use crate::order::by_moment;
 use crate::read::entry;
-use crate::replay::Ends;
 use crate::replay::moved;
+
+// Where a queue's nodes begin and end.
+struct Ends {
+    lo: usize,
+    hi: usize,
+}
 
 // The judge's number where the log's calls have no order, else 0; and how many nodes are left.
 pub struct Remaining {
@@ -35,23 +39,22 @@ fn replayed(
     requires { ⌜ (n ≤ 256) × Ordered (entryAt (now log)) n (now keys) count × Whole (now log) n × (length (now row) ≡ 256) ⌝ }
     ensures { λ r. ⌜ LiesIn (entryAt (now (log .entry))) n queue (now (row .exit)) (r .lo) (r .hi) ⌝ }
 {
-    let mut lo: usize = 0;
-    let mut hi: usize = 0;
+    let mut ends: usize = 0;
     let mut k: usize = 0;
     while k < count {
         let key = keys[k];
-        let j = key % 256;
-        let e = entry(log, j);
+        let e = entry(log, key % 256);
         k = k + 1;
         if e.queue != queue {
             continue;
         }
-        let ends = moved(lo, hi, what(e));
-        row[hi] = e.node;
-        lo = ends.lo;
-        hi = ends.hi;
+        row[ends / 65536] = e.node;
+        ends = moved(ends, e);
     }
-    Ends { lo: lo, hi: hi }
+    Ends {
+        lo: ends % 65536,
+        hi: ends / 65536,
+    }
 }
 
 // Puts some nodes in front of others.

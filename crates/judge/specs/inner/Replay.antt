@@ -1,33 +1,39 @@
 -- A queue's nodes between two places of a row, and what a call makes of them.
 use mathlib.Core.Path.{_≡_}
-use mathlib.Core.Bool.{cond}
+use mathlib.Core.Bool.{Bool, cond, not}
 use mathlib.Core.List.{List}
-use Prim.Native.Nat.{ℕ, _+_, _-_, _*_, _≤_}
-use lib.Dec.{leb}
-use lib.ListN.{length}
+use Prim.Native.Nat.{ℕ, _+_, _-_, _*_, _/_, _%_, _≤_}
+use lib.Dec.{eqb, leb}
+use lib.ListN.{length, getD}
 use lib.Seq.{slice}
 use Rattle.log.specs.declared.Entry.{Entry}
 use Rattle.log.specs.declared.What.{What}
 use Rattle.log.specs.declared.What.the-variants.{Pushed, Full, BottomNode, BottomNil, TopNode, TopNil, TopLost}
+use Rattle.rules.specs.Search.{any}
 use Rattle.rules.specs.Left.{leftIn}
 
-abbrev pub loAfter : What → ℕ → ℕ → ℕ
-loAfter Pushed lo hi = lo
-loAfter Full lo hi = lo
-loAfter BottomNode lo hi = lo
-loAfter BottomNil lo hi = lo
-loAfter TopNode lo hi = cond (leb hi lo) lo (lo + 1)
-loAfter TopNil lo hi = lo
-loAfter TopLost lo hi = lo
+-- the ends of a queue are 65,536 × hi + lo: its nodes lie in its row from lo, the top, up to hi
+abbrev pub loOf : ℕ → ℕ
+loOf s = s % 65536
 
-abbrev pub hiAfter : What → ℕ → ℕ → ℕ
-hiAfter Pushed lo hi = hi + 1
-hiAfter Full lo hi = hi
-hiAfter BottomNode lo hi = cond (leb hi lo) hi (hi - 1)
-hiAfter BottomNil lo hi = hi
-hiAfter TopNode lo hi = hi
-hiAfter TopNil lo hi = hi
-hiAfter TopLost lo hi = hi
+abbrev pub hiOf : ℕ → ℕ
+hiOf s = s / 65536
+
+abbrev pub heldIn : List ℕ → ℕ → ℕ → List ℕ
+heldIn nodes row s = slice (row + loOf s) (row + hiOf s) nodes
+
+-- a node is none of the first c that were pushed
+abbrev pub newIn : List ℕ → ℕ → ℕ → Bool
+newIn added c v = not (any (λ i. eqb (getD added i 0) v) c)
+
+abbrev pub endsAfter : What → ℕ → ℕ
+endsAfter Pushed s = s + 65536
+endsAfter Full s = s
+endsAfter BottomNode s = cond (leb (hiOf s) (loOf s)) s (s - 65536)
+endsAfter BottomNil s = s
+endsAfter TopNode s = cond (leb (hiOf s) (loOf s)) s (s + 1)
+endsAfter TopNil s = s
+endsAfter TopLost s = s
 
 -- arrays with room for n entries: the nodes of eight queues lie in rows of this width, queue q's from width × q on
 pub record Roomy (n width : ℕ) (keys nodes added : List ℕ) : Type 0 where

@@ -1,6 +1,6 @@
 -- `judge::causes::first_uncaused` meets its contract. The loop keeps `Shelves`: what is known of each queue after the first k moments, which lie
 -- before the ends of the entries that are left.
-use mathlib.Core.Path.{_≡_, ap, sym, subst, _∙_}
+use mathlib.Core.Path.{_≡_, sym, subst, _∙_}
 use mathlib.Core.Bool.{Bool, true, _&&_}
 use mathlib.Core.List.{List}
 use Prim.Native.Nat.{ℕ, _+_, _-_, _*_, _≤_, _<_}

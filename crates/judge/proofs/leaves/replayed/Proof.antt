@@ -2,18 +2,18 @@
 use mathlib.Core.Path.{_≡_, subst}
 use Prim.Native.Nat.{ℕ, _-_, _≤_, _<_}
 use native.Mathlib.Omega.{arith}
-use borrow.Author.Needs.{needs}
 use Rattle.log.specs.Decode.{entryAt}
 use Rattle.judge.specs.inner.Order.{indexAt}
+use Rattle.judge.specs.inner.Replay.{hiOf}
 use Rattle.judge.proofs.LeavesLaws.{Lying, lying-start, lying-other, lying-own, lies}
 use Rattle.judge.proofs.leaves.replayed.Statement.{statement}
 use Rattle.judge.proofs.leaves.replayed.Tie as tie
 
 abbrev Inv-loop : tie.InvT-loop
-Inv-loop log n queue keys count row₀ lo₀ hi₀ k₀ row lo hi k = (k ≤ count) × Lying (entryAt log) n keys k queue row lo hi
+Inv-loop log n queue keys count row₀ ends₀ k₀ row ends k = (k ≤ count) × Lying (entryAt log) n keys k queue row ends
 
 abbrev μ-loop : tie.MeasureT-loop
-μ-loop log n queue keys count row₀ lo₀ hi₀ k₀ row lo hi k = count - k
+μ-loop log n queue keys count row₀ ends₀ k₀ row ends k = count - k
 
 -- where the entry has been read: the start, the loop's variables, and the entry
 abbrev Read : Type 0
@@ -32,11 +32,13 @@ is : (c : Read) → c .entry .result ≡ entryAt (start c .args .log .now) (inde
 is c = c .entry .ensures
 
 -- there is room above the bottom
-room : (c : Read) → loop-at c .loop .hi < 256
+room : (c : Read) → hiOf (loop-at c .loop .ends) < 256
 room c = omega (arith, below c, loop-at c .loop .inv .1 .high, start c .pre .1 .few, start c .pre .0)
 
 loop-holds : tie.Need-loop-holds Inv-loop μ-loop
-loop-holds c = (omega arith, lying-start (entryAt (c .before .args .log .now)) (c .before .args .n) (c .before .args .keys .now) (c .before .args .queue) (c .before .args .row .now) (c .before .pre .3))
+loop-holds c =
+    let a = c .before .args in
+    (omega arith, lying-start (entryAt (a .log .now)) (a .n) (a .keys .now) (a .queue) (a .row .now) (c .before .pre .3))
 
 mul-key : tie.Need-mul-key Inv-loop μ-loop
 mul-key c = omega (arith, c .loop-test .taken, c .before .before .before .pre .1 .few, c .before .before .before .pre .0)
@@ -62,35 +64,31 @@ loop-again c =
     let l = loop-at r .loop in
     let a = start r .args in (
       omega (arith, below r),
-      lying-other (entryAt (a .log .now)) (a .n) (a .keys .now) (a .count) (start r .pre .1) (a .queue) (l .row) (l .lo) (l .hi) (l .k) (below r) (l .inv .1)
+      lying-other (entryAt (a .log .now)) (a .n) (a .keys .now) (a .count) (start r .pre .1) (a .queue) (l .row) (l .ends) (l .k) (below r) (l .inv .1)
           (r .entry .result) (is r) (c .if1 .taken),
     )
 
-what-requires : tie.Need-what-requires Inv-loop μ-loop
-what-requires c κs = search needs
-
-moved-requires : tie.Need-moved-requires Inv-loop μ-loop
-moved-requires c κs = let r = c .before .before .before in (loop-at r .loop .inv .1 .low, omega (arith, room r))
-
 mul-row : tie.Need-mul-row Inv-loop μ-loop
-mul-row c = omega (arith, room (c .before .before .before .before))
+mul-row c = omega (arith, room (c .before .before))
 
 element-write-row : tie.Need-element-write-row Inv-loop μ-loop
-element-write-row c = room (c .before .before .before .before)
+element-write-row c = room (c .before .before)
+
+moved-requires : tie.Need-moved-requires Inv-loop μ-loop
+moved-requires c κs = omega (arith, room (c .before .before))
 
 loop-less-2 : tie.Need-loop-less-2 Inv-loop μ-loop
-loop-less-2 c = omega (arith, below (c .before .before .before .before))
+loop-less-2 c = omega (arith, below (c .before .before .before))
 
 loop-again-2 : tie.Need-loop-again-2 Inv-loop μ-loop
 loop-again-2 c =
-    let r = c .before .before .before .before in
+    let r = c .before .before .before in
     let l = loop-at r .loop in
-    let a = start r .args in
-    let w = c .before .what .ensures in (
+    let a = start r .args in (
       omega (arith, below r),
-      rw (c .moved .ensures .0, c .moved .ensures .1, w)
-          (lying-own (entryAt (a .log .now)) (a .n) (a .keys .now) (a .count) (start r .pre .1) (a .queue) (l .row) (l .lo) (l .hi) (l .k) (below r) (l .inv .1)
-          (r .entry .result) (is r) (c .before .before .if1 .left) (omega (arith, room r, l .inv .1 .long))),
+      rw (c .moved .ensures)
+          (lying-own (entryAt (a .log .now)) (a .n) (a .keys .now) (a .count) (start r .pre .1) (a .queue) (l .row) (l .ends) (l .k) (below r) (l .inv .1)
+          (r .entry .result) (is r) (c .before .if1 .left) (room r)),
     )
 
 returns : tie.Need-returns Inv-loop μ-loop
@@ -99,8 +97,8 @@ returns c =
     let p = c .before .before .before .pre in
     let l = c .before .loop in
     let e : l .k ≡ a .count = omega (arith, l .inv .0, c .loop-test .left) in
-    lies (entryAt (a .log .now)) (a .n) (a .keys .now) (a .count) (p .1) (a .queue) (l .row) (l .lo) (l .hi) (p .0)
-    (subst (λ (k : ℕ). Lying (entryAt (a .log .now)) (a .n) (a .keys .now) k (a .queue) (l .row) (l .lo) (l .hi)) e (l .inv .1))
+    lies (entryAt (a .log .now)) (a .n) (a .keys .now) (a .count) (p .1) (a .queue) (l .row) (l .ends) (p .0)
+    (subst (λ (k : ℕ). Lying (entryAt (a .log .now)) (a .n) (a .keys .now) k (a .queue) (l .row) (l .ends)) e (l .inv .1))
 
 pub replayed-spec : {M : Type 1} → statement M
 replayed-spec =
@@ -115,10 +113,9 @@ replayed-spec =
     add-k
     loop-less
     loop-again
-    what-requires
-    moved-requires
     mul-row
     element-write-row
+    moved-requires
     loop-less-2
     loop-again-2
     returns)

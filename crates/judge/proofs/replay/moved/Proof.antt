@@ -1,48 +1,60 @@
 -- `judge::replay::moved` meets its contract.
-use mathlib.Core.Path.{_≡_, refl}
+use mathlib.Core.Path.{_≡_, refl, sym, ap, _∙_}
+use mathlib.Core.Bool.{Bool, cond}
+use Prim.Native.Nat.{ℕ, _+_, _-_}
 use borrow.Author.Tests.{le-leb, lt-leb}
 use borrow.Author.Needs.{needs}
-use Rattle.judge.specs.inner.Replay.{loAfter, hiAfter}
+use Rattle.log.specs.declared.What.{What}
+use Rattle.log.specs.Numbers.{what}
+use Rattle.judge.specs.inner.Replay.{loOf, hiOf, endsAfter}
 use Rattle.judge.proofs.KindLaws.{unaltered}
 use Rattle.judge.proofs.replay.moved.Statement.{statement}
 use Rattle.judge.proofs.replay.moved.Tie as tie
 
+-- where it has been told what the call did
+abbrev Read : Type 0
+Read = tie.After-what
+
+abbrev ends : Read → ℕ
+ends c = c .before .args .ends
+
+-- ends that are right for what was told are right for the entry
+right : (c : Read) (w : What) (r : ℕ) → c .what .result ≡ w → r ≡ endsAfter w (ends c) → r ≡ endsAfter (what (c .before .args .e)) (ends c)
+right c w r e h = h ∙ ap (λ (v : What). endsAfter v (ends c)) (sym e ∙ c .what .ensures)
+
 returns : tie.Need-returns
-returns c = let a = c .before .before .before .args in (
-  rw (c .before .enum-told2 .given .1),
-  rw (c .before .enum-told2 .given .1, le-leb (a .hi) (a .lo) (c .if1 .taken)),
-)
+returns c =
+    let r = c .before .before .before in
+    right r _ _ (c .before .enum-told2 .given .1) (sym (ap (λ (t : Bool). cond t (ends r) (ends r - 65536)) (le-leb (hiOf (ends r)) (loOf (ends r)) (c .if1 .taken))))
 
 returns-2 : tie.Need-returns-2
-returns-2 c = let a = c .before .before .before .args in (
-  rw (c .before .enum-told3 .given .1, le-leb (a .hi) (a .lo) (c .if2 .taken)),
-  rw (c .before .enum-told3 .given .1),
-)
+returns-2 c =
+    let r = c .before .before .before in
+    right r _ _ (c .before .enum-told3 .given .1) (sym (ap (λ (t : Bool). cond t (ends r) (ends r + 1)) (le-leb (hiOf (ends r)) (loOf (ends r)) (c .if2 .taken))))
 
 returns-3 : tie.Need-returns-3
-returns-3 c = (rw (c .enum-told .given .1), rw (c .enum-told .given .1))
+returns-3 c = right (c .before .before) _ _ (c .enum-told .given .1) refl
 
 returns-4 : tie.Need-returns-4
-returns-4 c = let a = c .before .before .before .args in (
-  rw (c .before .enum-told2 .given .1),
-  rw (c .before .enum-told2 .given .1, lt-leb (a .hi) (a .lo) (c .if1 .left)),
-)
+returns-4 c =
+    let r = c .before .before .before in
+    right r _ _ (c .before .enum-told2 .given .1) (sym (ap (λ (t : Bool). cond t (ends r) (ends r - 65536)) (lt-leb (hiOf (ends r)) (loOf (ends r)) (c .if1 .left))))
 
 returns-5 : tie.Need-returns-5
-returns-5 c = let a = c .before .before .before .args in (
-  rw (c .before .enum-told3 .given .1, lt-leb (a .hi) (a .lo) (c .if2 .left)),
-  rw (c .before .enum-told3 .given .1),
-)
+returns-5 c =
+    let r = c .before .before .before in
+    right r _ _ (c .before .enum-told3 .given .1) (sym (ap (λ (t : Bool). cond t (ends r) (ends r + 1)) (lt-leb (hiOf (ends r)) (loOf (ends r)) (c .if2 .left))))
 
 returns-6 : tie.Need-returns-6
-returns-6 c = let a = c .before .args in unaltered (λ w. (a .lo ≡ loAfter w (a .lo) (a .hi)) × (a .hi ≡ hiAfter w (a .lo) (a .hi))) (refl, refl)
-    (refl, refl)
-    (refl, refl) (refl, refl) (a .did) (c .match .keys4)
+returns-6 c =
+    let r = c .before in
+    right r (r .what .result) _ refl (unaltered (λ w. ends r ≡ endsAfter w (ends r)) refl refl refl refl (r .what .result) (c .match .keys4))
 
 pub moved-spec : {M : Type 1} → statement M
 moved-spec =
     tie.close
     (tie.spec
+    (λ c κs. search needs)
     (λ c. search needs)
     (λ c. search needs)
     (λ c. search needs)
