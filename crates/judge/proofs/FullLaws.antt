@@ -1,8 +1,8 @@
--- Rule 6 by two counts of each queue, gone through the log.
+-- Rule 6 by the counts of each queue, gone through the log.
 use mathlib.Core.Path.{_≡_, refl, sym, ap, _∙_, subst}
 use mathlib.Core.Bool.{Bool, true, false, cond, _&&_, and-true, and-false}
 use mathlib.Core.List.{List}
-use Prim.Native.Nat.{ℕ, zero, suc, _+_, _≤_, _<_}
+use Prim.Native.Nat.{ℕ, zero, suc, _+_, _/_, _%_, _^_, _≤_, _<_}
 use native.Mathlib.Omega.{arith}
 use native.Mathlib.Numerals.{add-one}
 use native.Mathlib.Decide.{ℕ-discrete}
@@ -12,19 +12,45 @@ use lib.ListN.{length, getD, set, replicate, length-set}
 use lib.Seq.{getD-set-same, getD-set-other}
 use Rattle.log.specs.declared.Entry.{Entry}
 use Rattle.log.specs.declared.What.{What}
-use Rattle.log.specs.declared.What.the-variants.{Pushed, Full, BottomNode, BottomNil}
+use Rattle.log.specs.declared.What.the-variants.{Pushed, Full, BottomNode, BottomNil, TopNode, TopNil, TopLost}
 use Rattle.log.specs.Numbers.{what, same}
 use Rattle.rules.specs.Rules.{did, since, breaks6}
 use Rattle.judge.proofs.EndLaws.{zeros}
 use Rattle.judge.specs.inner.Order.{Fields}
+use Rattle.judge.specs.inner.Full.{countsAfter}
 
--- how many calls count on each queue before entry j, of those that did w
-pub record Counted (w : What) (f : ℕ → Entry) (j : ℕ) (counts : List ℕ) : Type 0 where
+-- how many calls count on each queue before entry j
+pub record Counted (f : ℕ → Entry) (j : ℕ) (counts : List ℕ) : Type 0 where
   pub long : length counts ≡ 8
-  pub is : (q : ℕ) → q < 8 → getD counts q 0 ≡ since w f q j
+  pub pushes : (q : ℕ) → q < 8 → getD counts q 0 / 65536 ≡ since Pushed f q j
+  pub pops : (q : ℕ) → q < 8 → getD counts q 0 % 65536 ≡ since BottomNode f q j
 
-pub counted-start : (w : What) (f : ℕ → Entry) → Counted w f 0 (replicate 8 0)
-counted-start w f = record { long = refl; is = λ q u. zeros 8 q }
+pub counted-start : (f : ℕ → Entry) → Counted f 0 (replicate 8 0)
+counted-start f = record {
+  long = refl;
+  pushes = λ q u. ap (λ (x : ℕ). x / 65536) (zeros 8 q);
+  pops = λ q u. ap (λ (x : ℕ). x % 65536) (zeros 8 q);
+}
+
+pushes-after : (w : What) (s : ℕ) → s % 65536 < 65535
+    → countsAfter w s / 65536 ≡ cond (same BottomNil w) 0 (cond (same Pushed w) (s / 65536 + 1) (s / 65536))
+pushes-after Pushed s h = omega arith
+pushes-after Full s h = refl
+pushes-after BottomNode s h = omega arith
+pushes-after BottomNil s h = refl
+pushes-after TopNode s h = refl
+pushes-after TopNil s h = refl
+pushes-after TopLost s h = refl
+
+pops-after : (w : What) (s : ℕ) → s % 65536 < 65535
+    → countsAfter w s % 65536 ≡ cond (same BottomNil w) 0 (cond (same BottomNode w) (s % 65536 + 1) (s % 65536))
+pops-after Pushed s h = omega arith
+pops-after Full s h = refl
+pops-after BottomNode s h = omega arith
+pops-after BottomNil s h = refl
+pops-after TopNode s h = refl
+pops-after TopNil s h = refl
+pops-after TopLost s h = refl
 
 since-le : (w : What) (f : ℕ → Entry) (q j : ℕ) → since w f q j ≤ j
 since-le w f q zero = omega arith
@@ -35,43 +61,65 @@ since-le w f q (suc j) = step (did BottomNil q (f j)) (did w q (f j)) (since-le 
     step false true h = omega arith
     step false false h = omega arith
 
-module _ (f : ℕ → Entry) (n : ℕ) (r : Fields f n) (j : ℕ) (below : j < n) where
-  queue-low : f j .queue < 8
+module _ (f : ℕ → Entry) (n : ℕ) (small : n ≤ 256) (r : Fields f n) (j : ℕ) (below : j < n) (counts : List ℕ) (c : Counted f j counts) where
+  abbrev q : ℕ
+  q = f j .queue
+
+  abbrev there : ℕ
+  there = getD counts q 0
+
+  queue-low : q < 8
   queue-low = r j below .queue
 
-  pub low-told : (w : What) (counts : List ℕ) → Counted w f j counts → (e : Entry) → e ≡ f j → (e .queue < 8) × (getD counts (e .queue) 0 ≤ j)
-  low-told w counts s e g = subst (λ (e : Entry). (e .queue < 8) × (getD counts (e .queue) 0 ≤ j)) (sym g)
-      (queue-low, omega (arith, s .is (f j .queue) queue-low, since-le w f (f j .queue) j))
+  pops-few : there % 65536 ≤ 256
+  pops-few = omega (arith, c .pops q queue-low, since-le BottomNode f q j)
 
-  pub full-told : (C : ℕ) (pushes pops : List ℕ) → Counted Pushed f j pushes → Counted BottomNode f j pops → (e : Entry) → e ≡ f j → (t : Bool)
-      → t ≡ same Full (what e) → (t && ltb (getD pushes (e .queue) 0) (C + getD pops (e .queue) 0)) ≡ breaks6 f C j
-  full-told C pushes pops s u e g t h =
-      subst (λ (e : Entry). (t : Bool) → t ≡ same Full (what e) → (t && ltb (getD pushes (e .queue) 0) (C + getD pops (e .queue) 0)) ≡ breaks6 f C j)
-      (sym g) (λ t d. rw (d, s .is (f j .queue) queue-low, u .is (f j .queue) queue-low)) t h
+  pushes-few : there / 65536 ≤ 256
+  pushes-few = omega (arith, c .pushes q queue-low, since-le Pushed f q j)
 
   -- of the call's own queue, and of another
-  own : (w : What) → did w (f j .queue) (f j) ≡ same w (what (f j))
-  own w = rw (eq-eqb (f j .queue) (f j .queue) refl, and-true (same w (what (f j))))
+  own : (w : What) → did w q (f j) ≡ same w (what (f j))
+  own w = rw (eq-eqb q q refl, and-true (same w (what (f j))))
 
-  other : (w : What) (q : ℕ) → (f j .queue ≡ q → ⊥) → did w q (f j) ≡ false
-  other w q d = rw (ne-eqb (f j .queue) q d, and-false (same w (what (f j))))
+  other : (w : What) (x : ℕ) → (q ≡ x → ⊥) → did w x (f j) ≡ false
+  other w x d = rw (ne-eqb q x d, and-false (same w (what (f j))))
 
-  next : (w : What) (counts : List ℕ) → Counted w f j counts → (x : ℕ) (s t : Bool) → s ≡ same BottomNil (what (f j)) → t ≡ same w (what (f j))
-      → x ≡ cond s 0 (cond t (getD counts (f j .queue) 0 + 1) (getD counts (f j .queue) 0)) → Counted w f (j + 1) (set counts (f j .queue) x)
-  next w counts c x s t a b g = record { long = simp length-set (c .long); is = λ y u. is y u (ℕ-discrete y (f j .queue)) }
-    where
-      q : ℕ
-      q = f j .queue
+  abbrev counts₁ : List ℕ
+  counts₁ = set counts q (countsAfter (what (f j)) there)
 
-      is : (y : ℕ) → y < 8 → Dec (y ≡ q) → getD (set counts q x) y 0 ≡ since w f y (j + 1)
-      is y u (yes d) =
-          ap (λ (z : ℕ). getD (set counts q x) z 0) d ∙ getD-set-same counts q x 0 (omega (arith, c .long, queue-low)) ∙ g
-          ∙ rw (a, b, c .is q queue-low, d, add-one j, own BottomNil, own w)
-      is y u (no d) =
-          getD-set-other counts q y x 0 d ∙ c .is y u ∙ rw (add-one j, other BottomNil y (λ h. d (sym h)), other w y (λ h. d (sym h)))
+  here : getD counts₁ q 0 ≡ countsAfter (what (f j)) there
+  here = getD-set-same counts q (countsAfter (what (f j)) there) 0 (omega (arith, c .long, queue-low))
 
-  pub next-told : (w : What) (counts : List ℕ) → Counted w f j counts → (e : Entry) → e ≡ f j → (x : ℕ) (s t : Bool) → s ≡ same BottomNil (what e)
-      → t ≡ same w (what e) → x ≡ cond s 0 (cond t (getD counts (e .queue) 0 + 1) (getD counts (e .queue) 0)) → Counted w f (j + 1) (set counts (e .queue) x)
-  next-told w counts c e g = subst (λ (e : Entry). (x : ℕ) (s t : Bool) → s ≡ same BottomNil (what e) → t ≡ same w (what e)
-      → x ≡ cond s 0 (cond t (getD counts (e .queue) 0 + 1) (getD counts (e .queue) 0)) → Counted w f (j + 1) (set counts (e .queue) x)) (sym g)
-      (next w counts c)
+  elsewhere : (x : ℕ) → (x ≡ q → ⊥) → getD counts₁ x 0 ≡ getD counts x 0
+  elsewhere x d = getD-set-other counts q x (countsAfter (what (f j)) there) 0 d
+
+  -- one more call, counted by g, which are those that did w
+  module _ (w : What) (g : ℕ → ℕ) (is : (x : ℕ) → x < 8 → g (getD counts x 0) ≡ since w f x j)
+      (after : g (countsAfter (what (f j)) there) ≡ cond (same BottomNil (what (f j))) 0 (cond (same w (what (f j))) (g there + 1) (g there))) where
+    next : (x : ℕ) → x < 8 → Dec (x ≡ q) → g (getD counts₁ x 0) ≡ since w f x (j + 1)
+    next x u (yes d) = ap (λ (y : ℕ). g (getD counts₁ y 0)) d ∙ ap g here ∙ after ∙ rw (is q queue-low, d, add-one j, own BottomNil, own w)
+    next x u (no d) = ap g (elsewhere x d) ∙ is x u ∙ rw (add-one j, other BottomNil x (λ h. d (sym h)), other w x (λ h. d (sym h)))
+
+  counted-next : Counted f (j + 1) counts₁
+  counted-next = record {
+    long = simp length-set (c .long);
+    pushes = λ x u. next Pushed (λ s. s / 65536) (c .pushes) (pushes-after (what (f j)) there (omega (arith, pops-few))) x u (ℕ-discrete x q);
+    pops = λ x u. next BottomNode (λ s. s % 65536) (c .pops) (pops-after (what (f j)) there (omega (arith, pops-few))) x u (ℕ-discrete x q);
+  }
+
+  -- the same of an entry e that was read, as the code has it
+  pub record Told (C : ℕ) (e : Entry) : Type 0 where
+    pub queue : e .queue < 8
+    pub low : getD counts (e .queue) 0 < 2 ^ 25
+    pub few : getD counts (e .queue) 0 % 65536 ≤ 256
+    pub breaks : (same Full (what e) && ltb (getD counts (e .queue) 0 / 65536) (C + getD counts (e .queue) 0 % 65536)) ≡ breaks6 f C j
+    pub turn : Counted f (j + 1) (set counts (e .queue) (countsAfter (what e) (getD counts (e .queue) 0)))
+
+  pub told : (C : ℕ) (e : Entry) → e ≡ f j → Told C e
+  told C e g = subst (Told C) (sym g) (record {
+    queue = queue-low;
+    low = omega (arith, pops-few, pushes-few);
+    few = pops-few;
+    breaks = rw (c .pushes q queue-low, c .pops q queue-low);
+    turn = counted-next;
+  })

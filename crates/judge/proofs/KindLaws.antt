@@ -46,12 +46,6 @@ pushed-is = by-tests (λ t u v. t && v) (same Pushed) (refl, refl, refl, refl, r
 pub full-is : (k r : ℕ) → (eqb k push && not (eqb r done)) ≡ same Full (whatOf k r)
 full-is = by-tests (λ t u v. t && not v) (same Full) (refl, refl, refl, refl, refl, refl, refl)
 
-pub took-bottom-is : (k r : ℕ) → (eqb k bottomPop && eqb r done) ≡ same BottomNode (whatOf k r)
-took-bottom-is = by-tests (λ t u v. u && v) (same BottomNode) (refl, refl, refl, refl, refl, refl, refl)
-
-pub bottom-nil-is : (k r : ℕ) → (eqb k bottomPop && not (eqb r done)) ≡ same BottomNil (whatOf k r)
-bottom-nil-is = by-tests (λ t u v. u && not v) (same BottomNil) (refl, refl, refl, refl, refl, refl, refl)
-
 pub took-top-is : (k r : ℕ) → ((not (eqb k push) && not (eqb k bottomPop)) && eqb r done) ≡ same TopNode (whatOf k r)
 took-top-is = by-tests (λ t u v. (not t && not u) && v) (same TopNode) (refl, refl, refl, refl, refl, refl, refl)
 
@@ -86,3 +80,12 @@ module _ (P : What → Type 0) where
   momentless f t l TopNode k = absurd (miss (1 ∷ 5 ∷ 6 ∷ []) 4 tt k)
   momentless f t l TopNil k = t
   momentless f t l TopLost k = l
+
+  pub uncounted : P Full → P TopNode → P TopNil → P TopLost → (w : What) → OneOf (1 ∷ 4 ∷ 5 ∷ 6 ∷ []) (tagOf the-type w) → P w
+  uncounted f n t l Pushed k = absurd (miss (1 ∷ 4 ∷ 5 ∷ 6 ∷ []) 0 tt k)
+  uncounted f n t l Full k = f
+  uncounted f n t l BottomNode k = absurd (miss (1 ∷ 4 ∷ 5 ∷ 6 ∷ []) 2 tt k)
+  uncounted f n t l BottomNil k = absurd (miss (1 ∷ 4 ∷ 5 ∷ 6 ∷ []) 3 tt k)
+  uncounted f n t l TopNode k = n
+  uncounted f n t l TopNil k = t
+  uncounted f n t l TopLost k = l

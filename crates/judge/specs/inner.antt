@@ -3,3 +3,4 @@ pub mod Fields
 pub mod Order
 pub mod Replay
 pub mod Causes
+pub mod Full

@@ -59,7 +59,7 @@ pub(crate) fn what(e: Entry) -> What
     log::what_of(e.kind, e.result)
 }
 
-// Whether the call bears a moment, was a done push, a refused one, gave a node at the bottom, gave none there, gave a node at the top, gave none there.
+// Whether the call bears a moment, was a done push, a refused one, gave a node at the top, gave none there.
 pub(crate) fn bears(e: Entry) -> bool
     ensures { λ r. ⌜ r ≡ bearsIs e ⌝ }
 {
@@ -76,18 +76,6 @@ pub(crate) fn full(e: Entry) -> bool
     ensures { λ r. ⌜ r ≡ same What.Full (whatIs e) ⌝ }
 {
     (e.kind == log::PUSH) & !(e.result == log::DONE)
-}
-
-pub(crate) fn took_bottom(e: Entry) -> bool
-    ensures { λ r. ⌜ r ≡ same What.BottomNode (whatIs e) ⌝ }
-{
-    (e.kind == log::BOTTOM_POP) & (e.result == log::DONE)
-}
-
-pub(crate) fn bottom_nil(e: Entry) -> bool
-    ensures { λ r. ⌜ r ≡ same What.BottomNil (whatIs e) ⌝ }
-{
-    (e.kind == log::BOTTOM_POP) & !(e.result == log::DONE)
 }
 
 pub(crate) fn took_top(e: Entry) -> bool
