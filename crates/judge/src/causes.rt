@@ -9,9 +9,7 @@ ghost use Rattle.rules.specs.Judge.{first5};
 ghost use Rattle.judge.specs.inner.Order.{momentAt, indexAt, Whole};
 ghost use Rattle.judge.specs.inner.Causes.{shelfAfter, tookAfter, passedBy, Passable, otherTook, uncausedBy, Clean};
 use crate::fields::choose;
-use crate::fields::took_top;
 use crate::fields::top_nil;
-use crate::fields::what;
 use crate::read::entry;
 use log::Entry;
 use log::What;
@@ -21,7 +19,7 @@ fn shelf_after(e: Entry, shelf: u32) -> u32
     requires { ⌜ shelf < 2 ^ 31 ⌝ }
     ensures { λ r. ⌜ r ≡ shelfAfter e shelf ⌝ }
 {
-    let did = what(e);
+    let did = log::what_of(e.kind, e.result);
     match did {
         What::Pushed => {
             if shelf < 65536 {
@@ -43,7 +41,7 @@ fn shelf_after(e: Entry, shelf: u32) -> u32
 fn took_after(e: Entry, took: u32) -> u32
     ensures { λ r. ⌜ r ≡ tookAfter e took ⌝ }
 {
-    if took_top(e) {
+    if !(e.kind == log::PUSH) & !(e.kind == log::BOTTOM_POP) & (e.result == log::DONE) {
         e.moment as u32 + 1
     } else {
         took

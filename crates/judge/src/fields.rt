@@ -52,14 +52,7 @@ fn keeps_fields(p: u8, e: Entry) -> bool
         & (end <= LAST_END)
 }
 
-// What the entry says the call did.
-pub(crate) fn what(e: Entry) -> What
-    ensures { λ r. ⌜ r ≡ whatIs e ⌝ }
-{
-    log::what_of(e.kind, e.result)
-}
-
-// Whether the call bears a moment, was a done push, a refused one, gave a node at the top, gave none there.
+// Whether the call bears a moment, was a done push, a refused one, gave no node at the top.
 pub(crate) fn bears(e: Entry) -> bool
     ensures { λ r. ⌜ r ≡ bearsIs e ⌝ }
 {
@@ -76,12 +69,6 @@ pub(crate) fn full(e: Entry) -> bool
     ensures { λ r. ⌜ r ≡ same What.Full (whatIs e) ⌝ }
 {
     (e.kind == log::PUSH) & !(e.result == log::DONE)
-}
-
-pub(crate) fn took_top(e: Entry) -> bool
-    ensures { λ r. ⌜ r ≡ same What.TopNode (whatIs e) ⌝ }
-{
-    !(e.kind == log::PUSH) & !(e.kind == log::BOTTOM_POP) & (e.result == log::DONE)
 }
 
 pub(crate) fn top_nil(e: Entry) -> bool

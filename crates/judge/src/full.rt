@@ -7,7 +7,6 @@ ghost use Rattle.rules.specs.Judge.{first6};
 ghost use Rattle.judge.specs.inner.Order.{Fields, Whole};
 ghost use Rattle.judge.specs.inner.Full.{countsAfter};
 use crate::fields::full;
-use crate::fields::what;
 use crate::read::entry;
 use log::Entry;
 use log::What;
@@ -17,7 +16,7 @@ fn counts_after(e: Entry, counts: usize) -> usize
     requires { ⌜ counts < 2 ^ 32 ⌝ }
     ensures { λ r. ⌜ r ≡ countsAfter (whatIs e) counts ⌝ }
 {
-    let did = what(e);
+    let did = log::what_of(e.kind, e.result);
     match did {
         What::Pushed => counts + 65536,
         What::BottomNode => counts + 1,

@@ -12,7 +12,6 @@ ghost use Rattle.judge.specs.inner.Order.{Fields, Ordered, Whole};
 ghost use Rattle.judge.specs.inner.Replay.{newIn, endsAfter, heldIn, Roomy};
 use crate::fields::choose;
 use crate::fields::pushed;
-use crate::fields::what;
 use crate::read::entry;
 use log::Entry;
 use log::What;
@@ -39,7 +38,7 @@ fn lawful(nodes: &[u16], row: usize, ends: usize, added: &[u16], count: usize, e
 {
     let lo = row + ends % 65536;
     let hi = row + ends / 65536;
-    let did = what(e);
+    let did = log::what_of(e.kind, e.result);
     match did {
         What::Pushed => !added_in(added, count, e.node),
         What::BottomNode => {
@@ -64,7 +63,7 @@ pub(crate) fn moved(ends: usize, e: Entry) -> usize
     requires { ⌜ ends < 2 ^ 32 ⌝ }
     ensures { λ r. ⌜ r ≡ endsAfter (whatIs e) ends ⌝ }
 {
-    let did = what(e);
+    let did = log::what_of(e.kind, e.result);
     match did {
         What::Pushed => ends + 65536,
         What::BottomNode => {

@@ -13,12 +13,12 @@ use Rattle.judge.proofs.causes.shelf_after.Tie as tie
 
 -- where it has been told what the entry did
 abbrev Read : Type 0
-Read = tie.After-what
+Read = tie.After-what-of
 
 -- a shelf that is right for what was told is right for the entry
-right : (c : Read) (r : ℕ) → r ≡ shelfBy (c .what .result) (c .before .args .e .moment) (c .before .args .shelf)
+right : (c : Read) (r : ℕ) → r ≡ shelfBy (c .what-of .result) (c .before .args .e .moment) (c .before .args .shelf)
     → r ≡ shelfAfter (c .before .args .e) (c .before .args .shelf)
-right c r h = h ∙ ap (λ (w : What). shelfBy w (c .before .args .e .moment) (c .before .args .shelf)) (c .what .ensures)
+right c r h = h ∙ ap (λ (w : What). shelfBy w (c .before .args .e .moment) (c .before .args .shelf)) (c .what-of .ensures)
 
 returns : tie.Need-returns
 returns c =
@@ -30,7 +30,7 @@ returns-2 c =
     let r = c .before .before in
     let a = r .before .args in
     let z : a .shelf ≡ cond (ltb (a .shelf) 65536) (a .shelf) (a .shelf - 65536) = rw (lt-ltb (a .shelf) 65536 (c .if2 .taken)) in
-    right r _ (took (λ w. a .shelf ≡ shelfBy w (a .e .moment) (a .shelf)) z z (r .what .result) (c .before .match .keys2))
+    right r _ (took (λ w. a .shelf ≡ shelfBy w (a .e .moment) (a .shelf)) z z (r .what-of .result) (c .before .match .keys2))
 
 returns-3 : tie.Need-returns-3
 returns-3 c =
@@ -42,13 +42,13 @@ returns-4 c =
     let r = c .before .before in
     let a = r .before .args in
     let z : a .shelf - 65536 ≡ cond (ltb (a .shelf) 65536) (a .shelf) (a .shelf - 65536) = rw (le-ltb (a .shelf) 65536 (c .if2 .left)) in
-    right r _ (took (λ w. a .shelf - 65536 ≡ shelfBy w (a .e .moment) (a .shelf)) z z (r .what .result) (c .before .match .keys2))
+    right r _ (took (λ w. a .shelf - 65536 ≡ shelfBy w (a .e .moment) (a .shelf)) z z (r .what-of .result) (c .before .match .keys2))
 
 returns-5 : tie.Need-returns-5
 returns-5 c =
     let r = c .before in
     let a = r .before .args in
-    right r _ (unaltered (λ w. a .shelf ≡ shelfBy w (a .e .moment) (a .shelf)) refl refl refl refl (r .what .result) (c .match .keys3))
+    right r _ (unaltered (λ w. a .shelf ≡ shelfBy w (a .e .moment) (a .shelf)) refl refl refl refl (r .what-of .result) (c .match .keys3))
 
 pub shelf-after-spec : {M : Type 1} → statement M
 shelf-after-spec =

@@ -11,14 +11,14 @@ use Rattle.judge.proofs.full.counts_after.Tie as tie
 
 -- where it has been told what the call did
 abbrev Read : Type 0
-Read = tie.After-what
+Read = tie.After-what-of
 
 abbrev counts : Read → ℕ
 counts c = c .before .args .counts
 
 -- counts that are right for what was told are right for the entry
-right : (c : Read) (w : What) (r : ℕ) → c .what .result ≡ w → r ≡ countsAfter w (counts c) → r ≡ countsAfter (what (c .before .args .e)) (counts c)
-right c w r e h = h ∙ ap (λ (v : What). countsAfter v (counts c)) (sym e ∙ c .what .ensures)
+right : (c : Read) (w : What) (r : ℕ) → c .what-of .result ≡ w → r ≡ countsAfter w (counts c) → r ≡ countsAfter (what (c .before .args .e)) (counts c)
+right c w r e h = h ∙ ap (λ (v : What). countsAfter v (counts c)) (sym e ∙ c .what-of .ensures)
 
 returns : tie.Need-returns
 returns c = right (c .before .before) _ _ (c .enum-told .given .1) refl
@@ -32,7 +32,7 @@ returns-3 c = right (c .before .before) _ _ (c .enum-told3 .given .1) refl
 returns-4 : tie.Need-returns-4
 returns-4 c =
     let r = c .before in
-    right r (r .what .result) _ refl (uncounted (λ w. counts r ≡ countsAfter w (counts r)) refl refl refl refl (r .what .result) (c .match .keys4))
+    right r (r .what-of .result) _ refl (uncounted (λ w. counts r ≡ countsAfter w (counts r)) refl refl refl refl (r .what-of .result) (c .match .keys4))
 
 pub counts-after-spec : {M : Type 1} → statement M
 counts-after-spec =

@@ -15,7 +15,7 @@ use Rattle.judge.proofs.replay.lawful.Tie as tie
 
 -- where it has been told what the call did
 abbrev Read : Type 0
-Read = tie.After-what
+Read = tie.After-what-of
 
 abbrev start : Read → tie.Start
 start c = c .before .before .before
@@ -33,8 +33,8 @@ hi c = start c .args .row + hiOf (start c .args .ends)
 abbrev by : Read → What → Bool
 by c w = let a = start c .args in lawful (newIn (a .added .now) (a .count) (a .e .node)) w (a .e .node) (heldIn (nodes c) (a .row) (a .ends))
 
-right : (c : Read) (w : What) (r : Bool) → c .what .result ≡ w → r ≡ by c w → r ≡ by c (what (start c .args .e))
-right c w r e h = h ∙ ap (by c) (sym e ∙ c .what .ensures)
+right : (c : Read) (w : What) (r : Bool) → c .what-of .result ≡ w → r ≡ by c w → r ≡ by c (what (start c .args .e))
+right c w r e h = h ∙ ap (by c) (sym e ∙ c .what-of .ensures)
 
 returns : tie.Need-returns
 returns c =
@@ -69,7 +69,7 @@ returns-6 c =
 returns-7 : tie.Need-returns-7
 returns-7 c =
     let r = c .before in
-    right r (r .what .result) _ refl (momentless (λ w. true ≡ by r w) refl refl refl (r .what .result) (c .match .keys5))
+    right r (r .what-of .result) _ refl (momentless (λ w. true ≡ by r w) refl refl refl (r .what-of .result) (c .match .keys5))
 
 pub lawful-spec : {M : Type 1} → statement M
 lawful-spec =

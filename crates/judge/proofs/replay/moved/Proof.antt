@@ -13,14 +13,14 @@ use Rattle.judge.proofs.replay.moved.Tie as tie
 
 -- where it has been told what the call did
 abbrev Read : Type 0
-Read = tie.After-what
+Read = tie.After-what-of
 
 abbrev ends : Read → ℕ
 ends c = c .before .args .ends
 
 -- ends that are right for what was told are right for the entry
-right : (c : Read) (w : What) (r : ℕ) → c .what .result ≡ w → r ≡ endsAfter w (ends c) → r ≡ endsAfter (what (c .before .args .e)) (ends c)
-right c w r e h = h ∙ ap (λ (v : What). endsAfter v (ends c)) (sym e ∙ c .what .ensures)
+right : (c : Read) (w : What) (r : ℕ) → c .what-of .result ≡ w → r ≡ endsAfter w (ends c) → r ≡ endsAfter (what (c .before .args .e)) (ends c)
+right c w r e h = h ∙ ap (λ (v : What). endsAfter v (ends c)) (sym e ∙ c .what-of .ensures)
 
 returns : tie.Need-returns
 returns c =
@@ -48,7 +48,7 @@ returns-5 c =
 returns-6 : tie.Need-returns-6
 returns-6 c =
     let r = c .before in
-    right r (r .what .result) _ refl (unaltered (λ w. ends r ≡ endsAfter w (ends r)) refl refl refl refl (r .what .result) (c .match .keys4))
+    right r (r .what-of .result) _ refl (unaltered (λ w. ends r ≡ endsAfter w (ends r)) refl refl refl refl (r .what-of .result) (c .match .keys4))
 
 pub moved-spec : {M : Type 1} → statement M
 moved-spec =
