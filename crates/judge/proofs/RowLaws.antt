@@ -103,27 +103,38 @@ pub record Row (f : ℕ → Entry) (n : ℕ) (keys : List ℕ) (width k : ℕ) (
 abbrev pub isPush : (ℕ → Entry) → List ℕ → ℕ → Bool
 isPush f keys a = same Pushed (what (f (indexAt keys a)))
 
--- the nodes pushed by the first k calls
-pub record Added (f : ℕ → Entry) (keys : List ℕ) (width k : ℕ) (added : List ℕ) (c : ℕ) : Type 0 where
-  pub long : length added ≡ width
+-- the nodes pushed by the first k calls, which lie from some place on
+pub record Added (f : ℕ → Entry) (keys : List ℕ) (from k : ℕ) (nodes : List ℕ) (c : ℕ) : Type 0 where
   pub few : c ≤ k
-  pub sound : (i : ℕ) → i < c → Found (λ a. isPush f keys a && eqb (f (indexAt keys a) .node) (getD added i 0)) k
-  pub all : (a : ℕ) → a < k → isPush f keys a ≡ true → Found (λ i. eqb (getD added i 0) (f (indexAt keys a) .node)) c
+  pub sound : (i : ℕ) → i < c → Found (λ a. isPush f keys a && eqb (f (indexAt keys a) .node) (getD nodes (from + i) 0)) k
+  pub all : (a : ℕ) → a < k → isPush f keys a ≡ true → Found (λ i. eqb (getD nodes (from + i) 0) (f (indexAt keys a) .node)) c
 
-pub record Replayed (f : ℕ → Entry) (n : ℕ) (keys : List ℕ) (width k : ℕ) (nodes ends added : List ℕ) (c : ℕ) : Type 0 where
-  pub nodes-long : length nodes ≡ 8 * width
+-- a store before that place
+added-kept : (f : ℕ → Entry) (keys : List ℕ) (from k : ℕ) (nodes : List ℕ) (c at v : ℕ) → at < from → Added f keys from k nodes c
+    → Added f keys from k (set nodes at v) c
+added-kept f keys from k nodes c at v u s = record {
+  few = s .few;
+  sound = λ i w. let z = s .sound i w in record { at = z .at; below = z .below; passes = rw (still i) (z .passes) };
+  all = λ a w t. let z = s .all a w t in record { at = z .at; below = z .below; passes = rw (still (z .at)) (z .passes) };
+}
+  where
+    still : (i : ℕ) → getD (set nodes at v) (from + i) 0 ≡ getD nodes (from + i) 0
+    still i = getD-set-other nodes at (from + i) v 0 (λ e. omega arith)
+
+pub record Replayed (f : ℕ → Entry) (n : ℕ) (keys : List ℕ) (width k : ℕ) (nodes ends : List ℕ) (c : ℕ) : Type 0 where
+  pub nodes-long : length nodes ≡ 9 * width
   pub ends-long : length ends ≡ 8
   pub row : (q : ℕ) → q < 8 → Row f n keys width k nodes q (getD ends q 0)
-  pub pushes : Added f keys width k added c
+  pub pushes : Added f keys (8 * width) k nodes c
   pub fine : (a : ℕ) → a < k → breaks4 f n (indexAt keys a) ≡ false
 
 -- a row ends before a later one begins
 rows-apart : (width p q : ℕ) → p < q → width * p + width ≤ width * q
 rows-apart width p q u = omega (arith, mul-suc width p, mul-le-mul-left {m = suc p} {n = q} width (omega arith))
 
-pub replay-start : (f : ℕ → Entry) (n : ℕ) (keys : List ℕ) (width : ℕ) (nodes added : List ℕ) → length nodes ≡ 8 * width → length added ≡ width
-    → Replayed f n keys width 0 nodes (replicate 8 0) added 0
-replay-start f n keys width nodes added h g = record {
+pub replay-start : (f : ℕ → Entry) (n : ℕ) (keys : List ℕ) (width : ℕ) (nodes : List ℕ) → length nodes ≡ 9 * width
+    → Replayed f n keys width 0 nodes (replicate 8 0) 0
+replay-start f n keys width nodes h = record {
   nodes-long = h;
   ends-long = refl;
   row = λ q u. let e = zeros 8 q in record {
@@ -132,7 +143,7 @@ replay-start f n keys width nodes added h g = record {
     low = omega (arith, e);
     high = omega (arith, e);
   };
-  pushes = record { long = g; few = omega arith; sound = λ i u. absurd (omega arith); all = λ a u t. absurd (omega arith) };
+  pushes = record { few = omega arith; sound = λ i u. absurd (omega arith); all = λ a u t. absurd (omega arith) };
   fine = λ a u. absurd (omega arith);
 }
 
@@ -143,27 +154,27 @@ module _ (f : ℕ → Entry) (n : ℕ) (keys : List ℕ) (count : ℕ) (o : Orde
   abbrev j : ℕ
   j = indexAt keys k
 
-  module _ (width : ℕ) (added : List ℕ) (c : ℕ) (s : Added f keys width k added c) where
+  module _ (from : ℕ) (nodes : List ℕ) (c : ℕ) (s : Added f keys from k nodes c) where
     -- whether the node was added before
-    pub fresh-is : any (λ i. eqb (getD added i 0) (f j .node)) c ≡ any (λ x. addedBefore (f j) (f x)) n
-    fresh-is = by-both (any (λ i. eqb (getD added i 0) (f j .node)) c) (any (λ x. addedBefore (f j) (f x)) n)
-        (λ h. to (any-e (λ i. eqb (getD added i 0) (f j .node)) c h)) (λ h. from (any-e (λ x. addedBefore (f j) (f x)) n h))
+    pub fresh-is : any (λ i. eqb (getD nodes (from + i) 0) (f j .node)) c ≡ any (λ x. addedBefore (f j) (f x)) n
+    fresh-is = by-both (any (λ i. eqb (getD nodes (from + i) 0) (f j .node)) c) (any (λ x. addedBefore (f j) (f x)) n)
+        (λ h. to (any-e (λ i. eqb (getD nodes (from + i) 0) (f j .node)) c h)) (λ h. back (any-e (λ x. addedBefore (f j) (f x)) n h))
       where
-        to : Found (λ i. eqb (getD added i 0) (f j .node)) c → any (λ x. addedBefore (f j) (f x)) n ≡ true
+        to : Found (λ i. eqb (getD nodes (from + i) 0) (f j .node)) c → any (λ x. addedBefore (f j) (f x)) n ≡ true
         to z =
             let y = s .sound (z .at) (z .below) in
             let a = y .at in
             let x = indexAt keys a in
-            let p = and-0 (isPush f keys a) (eqb (f x .node) (getD added (z .at) 0)) (y .passes) in
-            let e = eqb-true (f x .node) (getD added (z .at) 0) (and-1 (isPush f keys a) (eqb (f x .node) (getD added (z .at) 0)) (y .passes)) in
-            let g = eqb-true (getD added (z .at) 0) (f j .node) (z .passes) in
+            let p = and-0 (isPush f keys a) (eqb (f x .node) (getD nodes (from + z .at) 0)) (y .passes) in
+            let e = eqb-true (f x .node) (getD nodes (from + z .at) 0) (and-1 (isPush f keys a) (eqb (f x .node) (getD nodes (from + z .at) 0)) (y .passes)) in
+            let g = eqb-true (getD nodes (from + z .at) 0) (f j .node) (z .passes) in
             let u : a < count = omega (arith, y .below) in
             any-i (λ x. addedBefore (f j) (f x)) n x (o .index a u)
             (and-i (and-i p (eq-eqb (f x .node) (f j .node) (e ∙ g))) (lt-ltb (f x .moment) (f j .moment)
             (omega (arith, o .moment a u, o .moment k inside, o .rising a k (y .below) inside))))
 
-        from : Found (λ x. addedBefore (f j) (f x)) n → any (λ i. eqb (getD added i 0) (f j .node)) c ≡ true
-        from z =
+        back : Found (λ x. addedBefore (f j) (f x)) n → any (λ i. eqb (getD nodes (from + i) 0) (f j .node)) c ≡ true
+        back z =
             let x = z .at in
             let h = and-0 (same Pushed (what (f x)) && eqb (f x .node) (f j .node)) (ltb (f x .moment) (f j .moment)) (z .passes) in
             let p = and-0 (same Pushed (what (f x))) (eqb (f x .node) (f j .node)) h in
@@ -173,66 +184,64 @@ module _ (f : ℕ → Entry) (n : ℕ) (keys : List ℕ) (count : ℕ) (o : Orde
             let e = event-of f n keys count o x (z .below) (pushed-bears (what (f x)) p) in
             let u = passed-back f n keys count o (e .at) k (e .below) inside (omega (arith, e .moment, o .moment k inside)) in
             let y = s .all (e .at) u (ap (λ (i : ℕ). same Pushed (what (f i))) (e .is) ∙ p) in
-            any-i (λ i. eqb (getD added i 0) (f j .node)) c (y .at) (y .below)
-            (eq-eqb (getD added (y .at) 0) (f j .node) (eqb-true (getD added (y .at) 0) (f (indexAt keys (e .at)) .node) (y .passes)
+            any-i (λ i. eqb (getD nodes (from + i) 0) (f j .node)) c (y .at) (y .below)
+            (eq-eqb (getD nodes (from + y .at) 0) (f j .node) (eqb-true (getD nodes (from + y .at) 0) (f (indexAt keys (e .at)) .node) (y .passes)
             ∙ ap (λ (i : ℕ). f i .node) (e .is) ∙ g))
 
     -- the next call's node is stored; it counts where it was pushed
-    pub added-next : (t : Bool) → t ≡ isPush f keys k → c < width → Added f keys width (k + 1) (set added c (f j .node)) (cond t (c + 1) c)
+    pub added-next : (t : Bool) → t ≡ isPush f keys k → from + c < length nodes → Added f keys from (k + 1) (set nodes (from + c) (f j .node)) (cond t (c + 1) c)
     added-next false e small = record {
-      long = simp length-set (s .long);
       few = omega (arith, s .few);
       sound = λ i u.
           let z = s .sound i u in
-          let ne : i ≡ c → ⊥ = λ g. omega arith in
-          let v : getD (set added c (f j .node)) i 0 ≡ getD added i 0 = getD-set-other added c i (f j .node) 0 ne in
+          let ne : from + i ≡ from + c → ⊥ = λ g. omega arith in
+          let v : getD (set nodes (from + c) (f j .node)) (from + i) 0 ≡ getD nodes (from + i) 0 = getD-set-other nodes (from + c) (from + i) (f j .node) 0 ne in
           record { at = z .at; below = omega (arith, z .below); passes = rw v (z .passes) };
       all = λ a u t. all a u t (ℕ-discrete a k);
     }
       where
         all : (a : ℕ) → a < k + 1 → isPush f keys a ≡ true → Dec (a ≡ k)
-            → Found (λ i. eqb (getD (set added c (f j .node)) i 0) (f (indexAt keys a) .node)) c
+            → Found (λ i. eqb (getD (set nodes (from + c) (f j .node)) (from + i) 0) (f (indexAt keys a) .node)) c
         all a u t (yes g) = contra (isPush f keys a) t (ap (isPush f keys) g ∙ sym e)
         all a u t (no g) =
             let z = s .all a (omega arith) t in
-            let ne : z .at ≡ c → ⊥ = λ g. omega (arith, z .below) in
-            record { at = z .at; below = z .below; passes = rw (getD-set-other added c (z .at) (f j .node) 0 ne) (z .passes) }
+            let ne : from + z .at ≡ from + c → ⊥ = λ g. omega (arith, z .below) in
+            record { at = z .at; below = z .below; passes = rw (getD-set-other nodes (from + c) (from + z .at) (f j .node) 0 ne) (z .passes) }
     added-next true e small = record {
-      long = simp length-set (s .long);
       few = omega (arith, s .few);
       sound = λ i u. sound i u (ℕ-discrete i c);
       all = λ a u t. all a u t (ℕ-discrete a k);
     }
       where
-        here : getD (set added c (f j .node)) c 0 ≡ f j .node
-        here = getD-set-same added c (f j .node) 0 (omega (arith, s .long))
+        here : getD (set nodes (from + c) (f j .node)) (from + c) 0 ≡ f j .node
+        here = getD-set-same nodes (from + c) (f j .node) 0 small
 
         sound : (i : ℕ) → i < c + 1 → Dec (i ≡ c) → Found (λ a. isPush f keys a && eqb (f (indexAt keys a) .node)
-            (getD (set added c (f j .node)) i 0)) (k + 1)
+            (getD (set nodes (from + c) (f j .node)) (from + i) 0)) (k + 1)
         sound i u (yes g) = record {
           at = k;
           below = omega arith;
-          passes = and-i (sym e) (eq-eqb (f j .node) (getD (set added c (f j .node)) i 0)
-              (sym (ap (λ (x : ℕ). getD (set added c (f j .node)) x 0) g ∙ here)));
+          passes = and-i (sym e) (eq-eqb (f j .node) (getD (set nodes (from + c) (f j .node)) (from + i) 0)
+              (sym (ap (λ (x : ℕ). getD (set nodes (from + c) (f j .node)) (from + x) 0) g ∙ here)));
         }
         sound i u (no g) =
             let z = s .sound i (omega arith) in
-            record { at = z .at; below = omega (arith, z .below); passes = rw (getD-set-other added c i (f j .node) 0 g) (z .passes) }
+            record { at = z .at; below = omega (arith, z .below); passes = rw (getD-set-other nodes (from + c) (from + i) (f j .node) 0 (λ d. g (omega arith))) (z .passes) }
 
         all : (a : ℕ) → a < k + 1 → isPush f keys a ≡ true → Dec (a ≡ k)
-            → Found (λ i. eqb (getD (set added c (f j .node)) i 0) (f (indexAt keys a) .node)) (c + 1)
+            → Found (λ i. eqb (getD (set nodes (from + c) (f j .node)) (from + i) 0) (f (indexAt keys a) .node)) (c + 1)
         all a u t (yes g) = record {
           at = c;
           below = omega arith;
-          passes = eq-eqb (getD (set added c (f j .node)) c 0) (f (indexAt keys a) .node)
+          passes = eq-eqb (getD (set nodes (from + c) (f j .node)) (from + c) 0) (f (indexAt keys a) .node)
               (here ∙ ap (λ (x : ℕ). f (indexAt keys x) .node) (sym g));
         }
         all a u t (no g) =
             let z = s .all a (omega arith) t in
-            let ne : z .at ≡ c → ⊥ = λ g. omega (arith, z .below) in
-            record { at = z .at; below = omega (arith, z .below); passes = rw (getD-set-other added c (z .at) (f j .node) 0 ne) (z .passes) }
+            let ne : from + z .at ≡ from + c → ⊥ = λ g. omega (arith, z .below) in
+            record { at = z .at; below = omega (arith, z .below); passes = rw (getD-set-other nodes (from + c) (from + z .at) (f j .node) 0 ne) (z .passes) }
 
-  module _ (width : ℕ) (nodes ends added : List ℕ) (c : ℕ) (s : Replayed f n keys width k nodes ends added c) (fits : n ≤ width) (small : width ≤ 256)
+  module _ (width : ℕ) (nodes ends : List ℕ) (c : ℕ) (s : Replayed f n keys width k nodes ends c) (fits : n ≤ width) (small : width ≤ 256)
       (fields : Fields f n) where
     abbrev q : ℕ
     q = f j .queue
@@ -252,11 +261,11 @@ module _ (f : ℕ → Entry) (n : ℕ) (keys : List ℕ) (count : ℕ) (o : Orde
     pub added-low : c < width
     added-low = omega (arith, s .pushes .few, o .few)
 
-    pub ok-is : lawful (newIn added c (f j .node)) (what (f j)) (f j .node) (heldIn nodes (width * q) at) ≡ lawfulAt f n (f j)
+    pub ok-is : lawful (newIn nodes (8 * width) c (f j .node)) (what (f j)) (f j .node) (heldIn nodes (width * q) at) ≡ lawfulAt f n (f j)
     ok-is =
-        ap (λ (d : List ℕ). lawful (newIn added c (f j .node)) (what (f j)) (f j .node) d)
+        ap (λ (d : List ℕ). lawful (newIn nodes (8 * width) c (f j .node)) (what (f j)) (f j .node) d)
         (mine .holds ∙ sym (now-is f n keys count o q k inside) ∙ ap (before f n q) (sym (o .moment k inside)))
-        ∙ ap (λ (t : Bool). lawful (not t) (what (f j)) (f j .node) (before f n q (f j .moment))) (fresh-is width added c (s .pushes))
+        ∙ ap (λ (t : Bool). lawful (not t) (what (f j)) (f j .node) (before f n q (f j .moment))) (fresh-is (8 * width) nodes c (s .pushes))
 
     abbrev nodes₁ : List ℕ
     nodes₁ = set nodes (width * q + hiOf at) (f j .node)
@@ -295,14 +304,26 @@ module _ (f : ℕ → Entry) (n : ℕ) (keys : List ℕ) (count : ℕ) (o : Orde
         apart (no p) = ahead nodes (width * x + loOf (getD ends x 0)) (width * x + hiOf (getD ends x 0)) (width * q + hiOf at) (f j .node)
             (omega (arith, mine .high, rows-apart width q x (omega arith), o .few))
 
+    abbrev nodes₂ : List ℕ
+    nodes₂ = set nodes₁ (8 * width + c) (f j .node)
+
+    -- the rows lie before what was pushed
+    rows-kept : (x y : ℕ) → x < 8 → Row f n keys width (k + 1) nodes₁ x y → Row f n keys width (k + 1) nodes₂ x y
+    rows-kept x y u r = record {
+      holds = past nodes₁ (width * x + loOf y) (width * x + hiOf y) (8 * width + c) (f j .node)
+          (omega (arith, r .high, rows-apart width x 8 u, o .few)) ∙ r .holds;
+      low = r .low;
+      high = r .high;
+    }
+
     -- one turn, of a lawful call
-    replay-next : lawfulAt f n (f j) ≡ true
-        → Replayed f n keys width (k + 1) nodes₁ ends₁ (set added c (f j .node)) (cond (isPush f keys k) (c + 1) c)
+    replay-next : lawfulAt f n (f j) ≡ true → Replayed f n keys width (k + 1) nodes₂ ends₁ (cond (isPush f keys k) (c + 1) c)
     replay-next ok = record {
       nodes-long = simp length-set (s .nodes-long);
       ends-long = simp length-set (s .ends-long);
-      row = λ x u. rows-next x u (ℕ-discrete x q);
-      pushes = added-next width added c (s .pushes) (isPush f keys k) refl added-low;
+      row = λ x u. rows-kept x (getD ends₁ x 0) u (rows-next x u (ℕ-discrete x q));
+      pushes = added-next (8 * width) nodes₁ c (added-kept f keys (8 * width) k nodes c (width * q + hiOf at) (f j .node) hi-low (s .pushes))
+          (isPush f keys k) refl (simp length-set (omega (arith, added-low, s .nodes-long)));
       fine = λ a u. fine a u (ℕ-discrete a k);
     }
       where
@@ -318,10 +339,10 @@ module _ (f : ℕ → Entry) (n : ℕ) (keys : List ℕ) (count : ℕ) (o : Orde
       pub queue : e .queue < 8
       pub high : width * e .queue + hiOf (getD ends (e .queue) 0) < 8 * width
       pub few : getD ends (e .queue) 0 < 2 ^ 25
-      pub ok : lawful (newIn added c (e .node)) (what e) (e .node) (heldIn nodes (width * e .queue) (getD ends (e .queue) 0)) ≡ lawfulAt f n (f j)
+      pub ok : lawful (newIn nodes (8 * width) c (e .node)) (what e) (e .node) (heldIn nodes (width * e .queue) (getD ends (e .queue) 0)) ≡ lawfulAt f n (f j)
       pub turn : lawfulAt f n (f j) ≡ true → Replayed f n keys width (k + 1)
-          (set nodes (width * e .queue + hiOf (getD ends (e .queue) 0)) (e .node)) (set ends (e .queue) (endsAfter (what e) (getD ends (e .queue) 0)))
-          (set added c (e .node)) (cond (same Pushed (what e)) (c + 1) c)
+          (set (set nodes (width * e .queue + hiOf (getD ends (e .queue) 0)) (e .node)) (8 * width + c) (e .node))
+          (set ends (e .queue) (endsAfter (what e) (getD ends (e .queue) 0))) (cond (same Pushed (what e)) (c + 1) c)
 
     pub told : (e : Entry) → e ≡ f j → Told e
     told e e₁ = subst Told (sym e₁)

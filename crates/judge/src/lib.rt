@@ -54,20 +54,17 @@ fn moment_rules(log: &[u8], n: usize, slots: u8) -> Verdict
 {
     if n <= 8 {
         let mut keys: [usize; 8] = [0; 8];
-        let mut nodes: [u16; 64] = [0; 64];
-        let mut added: [u16; 8] = [0; 8];
-        return moment_rules_in(log, n, slots, &mut keys, &mut nodes, &mut added, 8);
+        let mut nodes: [u16; 72] = [0; 72];
+        return moment_rules_in(log, n, slots, &mut keys, &mut nodes, 8);
     }
     if n <= 32 {
         let mut keys: [usize; 32] = [0; 32];
-        let mut nodes: [u16; 256] = [0; 256];
-        let mut added: [u16; 32] = [0; 32];
-        return moment_rules_in(log, n, slots, &mut keys, &mut nodes, &mut added, 32);
+        let mut nodes: [u16; 288] = [0; 288];
+        return moment_rules_in(log, n, slots, &mut keys, &mut nodes, 32);
     }
     let mut keys: [usize; 256] = [0; 256];
-    let mut nodes: [u16; 2048] = [0; 2048];
-    let mut added: [u16; 256] = [0; 256];
-    moment_rules_in(log, n, slots, &mut keys, &mut nodes, &mut added, 256)
+    let mut nodes: [u16; 2304] = [0; 2304];
+    moment_rules_in(log, n, slots, &mut keys, &mut nodes, 256)
 }
 
 // The same in arrays that are lent, where a queue's row has this width.
@@ -77,10 +74,9 @@ fn moment_rules_in(
     slots: u8,
     keys: &mut [usize],
     nodes: &mut [u16],
-    added: &mut [u16],
     width: usize,
 ) -> Verdict
-    requires { ⌜ Fields (entryAt (now log)) n × EndsKept (entryAt (now log)) n × Whole (now log) n × Roomy n width (now keys) (now nodes) (now added) ⌝ }
+    requires { ⌜ Fields (entryAt (now log)) n × EndsKept (entryAt (now log)) n × Whole (now log) n × Roomy n width (now keys) (now nodes) ⌝ }
     ensures { λ r. ⌜ r ≡ momentRulesOf (entryAt (now (log .entry))) n slots ⌝ }
 {
     let sorted = order::by_moment(log, n, keys);
@@ -89,7 +85,7 @@ fn moment_rules_in(
         return verdict_of(16, j3);
     }
     let count = sorted.count;
-    let j4 = replay::first_unlawful(log, n, keys, count, nodes, added, width);
+    let j4 = replay::first_unlawful(log, n, keys, count, nodes, width);
     if j4 < n {
         return verdict_of(17, j4);
     }

@@ -1,4 +1,5 @@
-// Rule 4: all queues at once, by rising moments. Queue q's nodes lie in the q-th row, from lo, the top, up to hi; its ends are 65,536 × hi + lo.
+// Rule 4: all queues at once, by rising moments. Queue q's nodes lie in the q-th row, from lo, the top, up to hi; its ends are 65,536 × hi + lo. In a ninth
+// row lie all nodes that were pushed.
 ghost use mathlib.Core.Path.{_≡_};
 ghost use Prim.Native.Nat.{_+_, _^_, _/_, _≤_, _<_};
 ghost use lib.Dec.{eqb};
@@ -16,31 +17,32 @@ use crate::read::entry;
 use log::Entry;
 use log::What;
 
-// Whether a node is among the first of those that were pushed. It looks at all of them, without a test to leave, so that many are compared at once.
-fn added_in(added: &[u16], count: usize, node: u16) -> bool
-    requires { ⌜ (count ≤ 256) × (count ≤ length (now added)) ⌝ }
-    ensures { λ r. ⌜ r ≡ any (λ i. eqb (getD (now (added .entry)) i 0) node) count ⌝ }
+// Whether a node is among the pushed ones, which lie from here. It looks at all of them, without a test to leave, so that many are compared at once.
+fn pushed_in(nodes: &[u16], from: usize, count: usize, node: u16) -> bool
+    requires { ⌜ (from + count ≤ length (now nodes)) × (from + count < 2 ^ 32) ⌝ }
+    ensures { λ r. ⌜ r ≡ any (λ i. eqb (getD (now (nodes .entry)) (from + i) 0) node) count ⌝ }
 {
     let mut hit = false;
     let mut i: usize = 0;
     while i < count {
-        let x = added[i];
+        let at = from + i;
+        let x = nodes[at];
         hit = hit | (x == node);
         i = i + 1;
     }
     hit
 }
 
-// Whether a call is lawful, by rule 4, on a queue with these ends in a row that begins here, where the first of some nodes were pushed.
-fn lawful(nodes: &[u16], row: usize, ends: usize, added: &[u16], count: usize, e: Entry) -> bool
-    requires { ⌜ (row + ends / 65536 ≤ length (now nodes)) × (row + ends < 2 ^ 32) × (count ≤ 256) × (count ≤ length (now added)) ⌝ }
-    ensures { λ r. ⌜ r ≡ lawfulIs (newIn (now (added .entry)) count (e .node)) (whatIs e) (e .node) (heldIn (now (nodes .entry)) row ends) ⌝ }
+// Whether a call is lawful, by rule 4, on a queue with these ends in a row that begins here, where the nodes pushed so far lie from there.
+fn lawful(nodes: &[u16], row: usize, ends: usize, from: usize, count: usize, e: Entry) -> bool
+    requires { ⌜ (row + ends / 65536 ≤ length (now nodes)) × (row + ends < 2 ^ 32) × (from + count ≤ length (now nodes)) × (from + count < 2 ^ 32) ⌝ }
+    ensures { λ r. ⌜ r ≡ lawfulIs (newIn (now (nodes .entry)) from count (e .node)) (whatIs e) (e .node) (heldIn (now (nodes .entry)) row ends) ⌝ }
 {
     let lo = row + ends % 65536;
     let hi = row + ends / 65536;
     let did = log::what_of(e.kind, e.result);
     match did {
-        What::Pushed => !added_in(added, count, e.node),
+        What::Pushed => !pushed_in(nodes, from, count, e.node),
         What::BottomNode => {
             if hi <= lo {
                 return false;
@@ -90,12 +92,12 @@ pub(crate) fn first_unlawful(
     keys: &[usize],
     count: usize,
     nodes: &mut [u16],
-    added: &mut [u16],
     width: usize,
 ) -> usize
-    requires { ⌜ Fields (entryAt (now log)) n × Ordered (entryAt (now log)) n (now keys) count × Whole (now log) n × Roomy n width (now keys) (now nodes) (now added) ⌝ }
+    requires { ⌜ Fields (entryAt (now log)) n × Ordered (entryAt (now log)) n (now keys) count × Whole (now log) n × Roomy n width (now keys) (now nodes) ⌝ }
     ensures { λ r. ⌜ r ≡ first4 (entryAt (now (log .entry))) n ⌝ }
 {
+    let from = 8 * width;
     let mut ends: [usize; 8] = [0; 8];
     let mut c: usize = 0;
     let mut k: usize = 0;
@@ -105,12 +107,12 @@ pub(crate) fn first_unlawful(
         let q = e.queue as usize;
         let row = width * q;
         let at = ends[q];
-        if !lawful(nodes, row, at, added, c, e) {
+        if !lawful(nodes, row, at, from, c, e) {
             return j;
         }
         nodes[row + at / 65536] = e.node;
         ends[q] = moved(at, e);
-        added[c] = e.node;
+        nodes[from + c] = e.node;
         c = choose(pushed(e), c + 1, c);
         k = k + 1;
     }

@@ -14,10 +14,10 @@ use Rattle.judge.proofs.moment_rules_in.Tie as tie
 
 -- the start, as the places where a rule has passed see it
 abbrev start1 : tie.Else1 → tie.Start
-start1 c = c .before .before .before .before .before .before .before .before .before
+start1 c = c .before .before .before .before .before .before .before .before
 
 abbrev start2 : tie.Else2 → tie.Start
-start2 c = start1 (c .before .before .before .before .before .before .before .before .before)
+start2 c = start1 (c .before .before .before .before .before .before)
 
 abbrev log-of : tie.Start → ℕ → Entry
 log-of s = entryAt (s .args .log .now)
@@ -26,7 +26,7 @@ kept3 : (c : tie.Else1) → start1 c .args .n ≤ first3 (log-of (start1 c)) (st
 kept3 c = pass _ _ _ (c .before .before .before .by-moment .ensures .0) (c .if1 .left)
 
 kept4 : (c : tie.Else2) → start2 c .args .n ≤ first4 (log-of (start2 c)) (start2 c .args .n)
-kept4 c = pass _ _ _ (c .before .before .before .before .before .first-unlawful .ensures) (c .if2 .left)
+kept4 c = pass _ _ _ (c .before .before .before .first-unlawful .ensures) (c .if2 .left)
 
 ordered : (c : tie.Else1) → Ordered (log-of (start1 c)) (start1 c .args .n) (c .before .before .before .by-moment .last .1 .1 .0)
     (c .before .before .before .by-moment .result .count)
@@ -39,31 +39,31 @@ keyed : (c : tie.Else1) → start1 c .args .n ≤ length (c .before .before .bef
 keyed c = omega (arith, c .before .before .keys .given, start1 c .pre .3 .keyed)
 
 by-moment-requires : tie.Need-by-moment-requires
-by-moment-requires c κs = let s = c .before .before .before .before .before in (small s, s .pre .3 .keyed, s .pre .2)
+by-moment-requires c κs = let s = c .before .before .before .before in (small s, s .pre .3 .keyed, s .pre .2)
 
 returns : tie.Need-returns
 returns c =
-    let a = c .before .before .before .before .before .before .before .before .before .before .args in
+    let a = c .before .before .before .before .before .before .before .before .before .args in
     says3 (entryAt (a .log .now)) (a .n) (a .slots) _ _ (c .before .before .before .before .by-moment .ensures .0) (c .before .if1 .taken) (c .verdict-of .ensures)
 
 first-unlawful-requires : tie.Need-first-unlawful-requires
 first-unlawful-requires c κs =
-    let e3 = c .before .before .before in
+    let e3 = c .before .before in
     let p = start1 e3 .pre in
     let r = p .3 in
-    (p .0, ordered e3, p .2, record { fits = r .fits; keyed = keyed e3; small = r .small; rows = r .rows; pushes = r .pushes })
+    (p .0, ordered e3, p .2, record { fits = r .fits; keyed = keyed e3; small = r .small; rows = r .rows })
 
 returns-2 : tie.Need-returns-2
 returns-2 c =
-    let e3 = c .before .before .before .before .before .before .before .before .before .before in
+    let e3 = c .before .before .before .before .before .before .before in
     let a = start1 e3 .args in
-    says4 (log-of (start1 e3)) (a .n) (a .slots) _ (kept3 e3) _ (c .before .before .before .before .before .before .first-unlawful .ensures) (c .before .if2 .taken)
+    says4 (log-of (start1 e3)) (a .n) (a .slots) _ (kept3 e3) _ (c .before .before .before .before .first-unlawful .ensures) (c .before .if2 .taken)
     (c .verdict-of2 .ensures)
 
 last-rules-requires : tie.Need-last-rules-requires
 last-rules-requires c κs =
     let e4 = c .before in
-    let e3 = e4 .before .before .before .before .before .before .before .before .before in
+    let e3 = e4 .before .before .before .before .before .before in
     let s = start1 e3 in (
       record {
         small = small s;
@@ -89,10 +89,8 @@ moment-rules-in-spec =
     (λ c κs. search needs)
     (λ c. search needs)
     (λ c. search needs)
-    (λ c. search needs)
     returns-2
     last-rules-requires
-    (λ c. search needs)
     (λ c. search needs)
     (λ c. search needs)
     (λ c. search needs))

@@ -22,9 +22,9 @@ hiOf s = s / 65536
 abbrev pub heldIn : List ℕ → ℕ → ℕ → List ℕ
 heldIn nodes row s = slice (row + loOf s) (row + hiOf s) nodes
 
--- a node is none of the first c that were pushed
-abbrev pub newIn : List ℕ → ℕ → ℕ → Bool
-newIn added c v = not (any (λ i. eqb (getD added i 0) v) c)
+-- a node is none of the c that lie from a place on
+abbrev pub newIn : List ℕ → ℕ → ℕ → ℕ → Bool
+newIn nodes from c v = not (any (λ i. eqb (getD nodes (from + i) 0) v) c)
 
 abbrev pub endsAfter : What → ℕ → ℕ
 endsAfter Pushed s = s + 65536
@@ -35,13 +35,12 @@ endsAfter TopNode s = cond (leb (hiOf s) (loOf s)) s (s + 1)
 endsAfter TopNil s = s
 endsAfter TopLost s = s
 
--- arrays with room for n entries: the nodes of eight queues lie in rows of this width, queue q's from width × q on
-pub record Roomy (n width : ℕ) (keys nodes added : List ℕ) : Type 0 where
+-- arrays with room for n entries: the nodes of eight queues lie in rows of this width, queue q's from width × q on, and after them all that were pushed
+pub record Roomy (n width : ℕ) (keys nodes : List ℕ) : Type 0 where
   pub fits : n ≤ width
   pub keyed : n ≤ length keys
   pub small : width ≤ 256
-  pub rows : length nodes ≡ 8 * width
-  pub pushes : length added ≡ width
+  pub rows : length nodes ≡ 9 * width
 
 -- the nodes that a log leaves in queue q lie from lo up to hi in a row of 256
 pub record LiesIn (f : ℕ → Entry) (n q : ℕ) (row : List ℕ) (lo hi : ℕ) : Type 0 where

@@ -6,6 +6,7 @@ use Prim.Native.Nat.{ℕ, _-_, _≤_, _<_}
 use native.Mathlib.Omega.{arith}
 use borrow.Author.Needs.{needs}
 use borrow.Author.Tests.{not-true, not-false}
+use lib.ListN.{length-set}
 use Rattle.log.specs.Decode.{entryAt}
 use Rattle.log.specs.declared.Entry.{Entry}
 use Rattle.rules.specs.Rules.{lawfulAt}
@@ -16,17 +17,17 @@ use Rattle.judge.proofs.replay.first_unlawful.Statement.{statement}
 use Rattle.judge.proofs.replay.first_unlawful.Tie as tie
 
 abbrev Inv-loop : tie.InvT-loop
-Inv-loop log n keys count nodes₀ added₀ width ends₀ c₀ k₀ nodes added ends c k = (k ≤ count) × Replayed (entryAt log) n keys width k nodes ends added c
+Inv-loop log n keys count nodes₀ width from ends₀ c₀ k₀ nodes ends c k = (k ≤ count) × Replayed (entryAt log) n keys width k nodes ends c
 
 abbrev μ-loop : tie.MeasureT-loop
-μ-loop log n keys count nodes₀ added₀ width ends₀ c₀ k₀ nodes added ends c k = count - k
+μ-loop log n keys count nodes₀ width from ends₀ c₀ k₀ nodes ends c k = count - k
 
 -- where the entry has been read: the start, the loop's variables, and the entry
 abbrev Read : Type 0
 Read = tie.After-entry Inv-loop μ-loop
 
 abbrev start : Read → tie.Start Inv-loop μ-loop
-start c = c .before .before .before .before .before .before .before .before
+start c = c .before .before .before .before .before .before .before
 
 abbrev loop-at : Read → tie.At-loop Inv-loop μ-loop
 loop-at c = c .before .before .before
@@ -50,13 +51,13 @@ is : (c : Read) → got c ≡ fun c (indexAt (keys c) (at c))
 is c = c .entry .ensures
 
 told-of : (c : Read) → Told (fun c) (start c .args .n) (keys c) (start c .args .count) (start c .pre .1) (at c) (below c) (start c .args .width)
-    (loop-at c .loop .nodes) (loop-at c .loop .ends) (loop-at c .loop .added) (loop-at c .loop .c) (loop-at c .loop .inv .1) (start c .pre .3 .fits)
+    (loop-at c .loop .nodes) (loop-at c .loop .ends) (loop-at c .loop .c) (loop-at c .loop .inv .1) (start c .pre .3 .fits)
     (start c .pre .3 .small) (start c .pre .0) (got c)
 told-of c =
     let l = loop-at c .loop in
     let a = start c .args in
     let p = start c .pre in
-    told (fun c) (a .n) (keys c) (a .count) (p .1) (l .k) (below c) (a .width) (l .nodes) (l .ends) (l .added) (l .c) (l .inv .1) (p .3 .fits) (p .3 .small)
+    told (fun c) (a .n) (keys c) (a .count) (p .1) (l .k) (below c) (a .width) (l .nodes) (l .ends) (l .c) (l .inv .1) (p .3 .fits) (p .3 .small)
     (p .0) (got c) (is c)
 
 narrow : (c : Read) → start c .args .width ≤ 256
@@ -67,7 +68,7 @@ few c =
     let l = loop-at c .loop in
     let a = start c .args in
     let p = start c .pre in
-    added-low (fun c) (a .n) (keys c) (a .count) (p .1) (l .k) (below c) (a .width) (l .nodes) (l .ends) (l .added) (l .c) (l .inv .1) (p .3 .fits)
+    added-low (fun c) (a .n) (keys c) (a .count) (p .1) (l .k) (below c) (a .width) (l .nodes) (l .ends) (l .c) (l .inv .1) (p .3 .fits)
     (p .3 .small) (p .0)
 
 -- where it has been judged
@@ -75,26 +76,26 @@ abbrev Judged : Type 0
 Judged = tie.After-lawful Inv-loop μ-loop
 
 abbrev read : Judged → Read
-read c = c .before .before .before .before
+read c = c .before .before .before
 
 ok-is : (c : Judged) → c .lawful .result ≡ lawfulAt (fun (read c)) (start (read c) .args .n) (fun (read c) (indexAt (keys (read c)) (at (read c))))
 ok-is c = c .lawful .ensures ∙ told-of (read c) .ok
 
 loop-holds : tie.Need-loop-holds Inv-loop μ-loop
 loop-holds c =
-    let a = c .before .before .before .before .args in
-    let p = c .before .before .before .before .pre .3 in
-    (search needs, replay-start (entryAt (a .log .now)) (a .n) (a .keys .now) (a .width) (a .nodes .now) (a .added .now) (p .rows) (p .pushes))
+    let a = c .before .before .before .args in
+    let p = c .before .before .before .pre .3 in
+    (search needs, replay-start (entryAt (a .log .now)) (a .n) (a .keys .now) (a .width) (a .nodes .now) (p .rows))
 
 mul-j : tie.Need-mul-j Inv-loop μ-loop
-mul-j c = let p = c .before .before .before .before .before .before .pre in omega (arith, c .loop-test .taken, p .1 .few, p .3 .fits, p .3 .small)
+mul-j c = let p = c .before .before .before .before .before .pre in omega (arith, c .loop-test .taken, p .1 .few, p .3 .fits, p .3 .small)
 
 shared-slice-read-j : tie.Need-shared-slice-read-j Inv-loop μ-loop
-shared-slice-read-j c = let p = c .before .before .before .before .before .before .before .pre in omega (arith, c .before .loop-test .taken, p .1 .few, p .3 .keyed)
+shared-slice-read-j c = let p = c .before .before .before .before .before .before .pre in omega (arith, c .before .loop-test .taken, p .1 .few, p .3 .keyed)
 
 entry-requires : tie.Need-entry-requires Inv-loop μ-loop
 entry-requires c κs =
-    let p = c .before .before .before .before .before .before .before .pre in
+    let p = c .before .before .before .before .before .before .pre in
     let i = p .1 .index (c .before .before .loop .k) (c .before .loop-test .taken) in
     (omega (arith, i, p .3 .fits, p .3 .small), omega (arith, i, p .2))
 
@@ -109,20 +110,17 @@ array-read-at c = told-of (c .before) .queue
 
 lawful-requires : tie.Need-lawful-requires Inv-loop μ-loop
 lawful-requires c κs =
-    let r = c .before .before .before in
+    let r = c .before .before in
     let t = told-of r in
     let i = loop-at r .loop .inv .1 in (
       omega (arith, t .high, i .nodes-long),
       omega (arith, t .high, t .few, narrow r),
+      omega (arith, few r, i .nodes-long),
       omega (arith, few r, narrow r),
-      omega (arith, few r, i .pushes .long),
     )
 
 same-length : tie.Need-same-length Inv-loop μ-loop
 same-length c = let r = read (c .before) in loop-at r .loop .inv .1 .nodes-long ∙ sym (start r .pre .3 .rows)
-
-same-length-2 : tie.Need-same-length-2 Inv-loop μ-loop
-same-length-2 c = let r = read (c .before) in loop-at r .loop .inv .1 .pushes .long ∙ sym (start r .pre .3 .pushes)
 
 returns : tie.Need-returns Inv-loop μ-loop
 returns c =
@@ -131,7 +129,7 @@ returns c =
     let a = start r .args in
     let p = start r .pre in
     worst-is (fun r) (a .n) (keys r) (a .count) (p .1) (l .k) (below r)
-    (wrong-is (fun r) (a .n) (keys r) (a .count) (p .1) (l .k) (below r) (a .width) (l .nodes) (l .ends) (l .added) (l .c) (l .inv .1) (p .3 .fits)
+    (wrong-is (fun r) (a .n) (keys r) (a .count) (p .1) (l .k) (below r) (a .width) (l .nodes) (l .ends) (l .c) (l .inv .1) (p .3 .fits)
     (p .3 .small) (p .0) (sym (ok-is (c .before)) ∙ not-true _ (c .if1 .taken)))
     (l .inv .1 .fine)
 
@@ -153,11 +151,14 @@ mul-ends c = omega (arith, told-of (read (c .before .before)) .queue)
 array-write-ends : tie.Need-array-write-ends Inv-loop μ-loop
 array-write-ends c = told-of (read (c .before .before)) .queue
 
-mul-added : tie.Need-mul-added Inv-loop μ-loop
-mul-added c = let r = read (c .before .before) in omega (arith, few r, narrow r)
+add-nodes-2 : tie.Need-add-nodes-2 Inv-loop μ-loop
+add-nodes-2 c = let r = read (c .before .before) in omega (arith, few r, narrow r)
 
-slice-write-added : tie.Need-slice-write-added Inv-loop μ-loop
-slice-write-added c = let r = read (c .before .before) in omega (arith, few r, loop-at r .loop .inv .1 .pushes .long)
+mul-nodes-2 : tie.Need-mul-nodes-2 Inv-loop μ-loop
+mul-nodes-2 c = let r = read (c .before .before) in omega (arith, few r, narrow r)
+
+slice-write-nodes-2 : tie.Need-slice-write-nodes-2 Inv-loop μ-loop
+slice-write-nodes-2 c = let r = read (c .before .before) in simp length-set (omega (arith, few r, loop-at r .loop .inv .1 .nodes-long))
 
 add-choose : tie.Need-add-choose Inv-loop μ-loop
 add-choose c = let r = read (c .before .before .before) in omega (arith, few r, narrow r)
@@ -176,16 +177,13 @@ loop-again c =
           (told-of (read j) .turn (sym (ok-is j) ∙ not-false _ (c .before .before .before .if1 .left))),
     )
 
-same-length-3 : tie.Need-same-length-3 Inv-loop μ-loop
-same-length-3 c = c .before .loop .inv .1 .nodes-long ∙ sym (c .before .before .before .before .before .before .pre .3 .rows)
-
-same-length-4 : tie.Need-same-length-4 Inv-loop μ-loop
-same-length-4 c = c .before .loop .inv .1 .pushes .long ∙ sym (c .before .before .before .before .before .before .pre .3 .pushes)
+same-length-2 : tie.Need-same-length-2 Inv-loop μ-loop
+same-length-2 c = c .before .loop .inv .1 .nodes-long ∙ sym (c .before .before .before .before .before .pre .3 .rows)
 
 returns-2 : tie.Need-returns-2 Inv-loop μ-loop
 returns-2 c =
-    let a = c .before .before .before .before .before .before .args in
-    let p = c .before .before .before .before .before .before .pre in
+    let a = c .before .before .before .before .before .args in
+    let p = c .before .before .before .before .before .pre in
     let l = c .before .loop in
     none-worst (entryAt (a .log .now)) (a .n) (a .keys .now) (a .count) (p .1) (λ x u. l .inv .1 .fine x (omega (arith, c .loop-test .left)))
 
@@ -195,6 +193,7 @@ first-unlawful-spec =
     (tie.spec
     Inv-loop
     μ-loop
+    (λ c. omega (arith, c .before .before .before .pre .3 .small))
     loop-holds
     mul-j
     shared-slice-read-j
@@ -205,7 +204,6 @@ first-unlawful-spec =
     array-read-at
     lawful-requires
     same-length
-    same-length-2
     returns
     add-nodes
     mul-nodes
@@ -213,14 +211,14 @@ first-unlawful-spec =
     moved-requires
     mul-ends
     array-write-ends
-    mul-added
-    slice-write-added
+    add-nodes-2
+    mul-nodes-2
+    slice-write-nodes-2
     (λ c κs. search needs)
     add-choose
     (λ c κs. search needs)
     add-k
     loop-less
     loop-again
-    same-length-3
-    same-length-4
+    same-length-2
     returns-2)

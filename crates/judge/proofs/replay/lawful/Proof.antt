@@ -18,7 +18,7 @@ abbrev Read : Type 0
 Read = tie.After-what-of
 
 abbrev start : Read → tie.Start
-start c = c .before .before .before
+start c = c .before .before
 
 abbrev nodes : Read → List ℕ
 nodes c = start c .args .nodes .now
@@ -31,7 +31,7 @@ hi c = start c .args .row + hiOf (start c .args .ends)
 
 -- whether a call that did w is lawful
 abbrev by : Read → What → Bool
-by c w = let a = start c .args in lawful (newIn (a .added .now) (a .count) (a .e .node)) w (a .e .node) (heldIn (nodes c) (a .row) (a .ends))
+by c w = let a = start c .args in lawful (newIn (a .nodes .now) (a .from) (a .count) (a .e .node)) w (a .e .node) (heldIn (nodes c) (a .row) (a .ends))
 
 right : (c : Read) (w : What) (r : Bool) → c .what-of .result ≡ w → r ≡ by c w → r ≡ by c (what (start c .args .e))
 right c w r e h = h ∙ ap (by c) (sym e ∙ c .what-of .ensures)
@@ -47,7 +47,7 @@ returns-2 c =
     right r _ _ (c .before .enum-told4 .given .1) (none-first (nodes r) (lo r) (hi r) (start r .args .e .node) (c .if2 .taken))
 
 returns-3 : tie.Need-returns-3
-returns-3 c = right (c .before .before .before) _ _ (c .before .enum-told .given .1) (ap not (c .added-in .ensures))
+returns-3 c = right (c .before .before .before) _ _ (c .before .enum-told .given .1) (ap not (c .pushed-in .ensures))
 
 returns-4 : tie.Need-returns-4
 returns-4 c =
