@@ -1,4 +1,4 @@
-// What is left in a queue: its calls by rising moment, from an empty row. The nodes lie from lo, the top, up to hi.
+// What is left in a queue: its calls by rising moment, from an empty row. The nodes lie from lo, the top, up to hi, and the ends are 65,536 × hi + lo.
 ghost use mathlib.Core.Path.{_≡_};
 ghost use mathlib.Core.List.{_++_};
 ghost use Prim.Native.Nat.{_≤_};
@@ -6,17 +6,11 @@ ghost use lib.ListN.{length, drop};
 ghost use Rattle.log.specs.Decode.{entryAt};
 ghost use Rattle.rules.specs.Left.{Leaves};
 ghost use Rattle.judge.specs.inner.Order.{Ordered, Whole};
-ghost use Rattle.judge.specs.inner.Replay.{LiesIn};
+ghost use Rattle.judge.specs.inner.Replay.{loOf, hiOf, LiesIn};
 use crate::judge;
 use crate::order::by_moment;
 use crate::read::entry;
 use crate::replay::moved;
-
-// Where a queue's nodes begin and end.
-struct Ends {
-    lo: usize,
-    hi: usize,
-}
 
 // The judge's number where the log's calls have no order, else 0; and how many nodes are left.
 pub struct Remaining {
@@ -35,9 +29,9 @@ fn replayed(
     keys: &[usize; 256],
     count: usize,
     row: &mut [u16; 256],
-) -> Ends
+) -> usize
     requires { ⌜ (n ≤ 256) × Ordered (entryAt (now log)) n (now keys) count × Whole (now log) n × (length (now row) ≡ 256) ⌝ }
-    ensures { λ r. ⌜ LiesIn (entryAt (now (log .entry))) n queue (now (row .exit)) (r .lo) (r .hi) ⌝ }
+    ensures { λ r. ⌜ LiesIn (entryAt (now (log .entry))) n queue (now (row .exit)) (loOf r) (hiOf r) ⌝ }
 {
     let mut ends: usize = 0;
     let mut k: usize = 0;
@@ -51,10 +45,7 @@ fn replayed(
         row[ends / 65536] = e.node;
         ends = moved(ends, e);
     }
-    Ends {
-        lo: ends % 65536,
-        hi: ends / 65536,
-    }
+    ends
 }
 
 // Puts some nodes in front of others.
@@ -87,8 +78,8 @@ pub fn left(log: &[u8], queue: u8, nodes: &mut [u16; 256]) -> Remaining
     let sorted = by_moment(log, n, &mut keys);
     let mut row: [u16; 256] = [0; 256];
     let ends = replayed(log, n, queue, &keys, sorted.count, &mut row);
-    let lo = ends.lo;
-    let hi = ends.hi;
+    let lo = ends % 65536;
+    let hi = ends / 65536;
     let count = hi - lo;
     put(&row[lo..hi], nodes);
     Remaining {

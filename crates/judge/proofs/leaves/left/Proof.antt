@@ -9,6 +9,7 @@ use Rattle.log.specs.Decode.{entryAt}
 use Rattle.rules.specs.Judge.{first3}
 use Rattle.rules.specs.Left.{leftIn}
 use Rattle.rules.proofs.LeftLaws.{InOrder}
+use Rattle.judge.specs.inner.Replay.{loOf, hiOf}
 use Rattle.judge.proofs.LeavesLaws.{part-is, leaves-none, whole-log, leaves-some}
 use Rattle.judge.proofs.leaves.left.Statement.{statement}
 use Rattle.judge.proofs.leaves.left.Tie as tie
@@ -52,8 +53,8 @@ replayed-requires c κs =
 put-requires : tie.Need-put-requires
 put-requires c κs =
     let z = c .before .before .before .replayed .ensures in
-    let lo = c .before .before .before .replayed .result .lo in
-    let hi = c .before .before .before .replayed .result .hi in
+    let lo = loOf (c .before .before .before .replayed .result) in
+    let hi = hiOf (c .before .before .before .replayed .result) in
     let row = c .before .before .before .replayed .last .1 .1 .1 .1 .1 .0 in
     (omega (arith, length-take (hi - lo) (drop lo row), z .high), search needs)
 
@@ -62,8 +63,8 @@ returns-2 c =
     let r = c .before .before .before .before .before .before .before .before .before .before in
     let a = start r .args in
     let z = c .before .before .before .before .replayed .ensures in
-    let lo = c .before .before .before .before .replayed .result .lo in
-    let hi = c .before .before .before .before .replayed .result .hi in
+    let lo = loOf (c .before .before .before .before .replayed .result) in
+    let hi = hiOf (c .before .before .before .before .replayed .result) in
     let row = c .before .before .before .before .replayed .last .1 .1 .1 .1 .1 .0 in
     let part = part-is row lo hi (z .low) in
     let size : length (take (hi - lo) (drop lo row)) ≡ hi - lo = ap length part ∙ length-slice lo hi row (omega (arith, z .high, z .long)) in
