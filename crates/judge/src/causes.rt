@@ -7,7 +7,7 @@ ghost use lib.ListN.{length};
 ghost use Rattle.log.specs.Decode.{entryAt};
 ghost use Rattle.rules.specs.Judge.{first5};
 ghost use Rattle.judge.specs.inner.Order.{momentAt, indexAt, Whole};
-ghost use Rattle.judge.specs.inner.Causes.{shelfAfter, tookAfter, passedBy, Passable, otherTook, uncausedBy, Clean};
+ghost use Rattle.judge.specs.inner.Causes.{shelfAfter, tookAfter, passedBy, Passable, uncausedBy, Clean};
 use crate::fields::choose;
 use crate::fields::top_nil;
 use crate::read::entry;
@@ -73,31 +73,24 @@ fn due(keys: &[usize], count: usize, k: usize, to: usize) -> usize
     }
 }
 
-// Whether another process took from the top of queue q at a moment from this one on.
-fn other_took(shelves: &[u32; 72], q: usize, process: usize, from: u32) -> bool
-    requires { ⌜ q < 8 ⌝ }
-    ensures { λ r. ⌜ r ≡ otherTook (now (shelves .entry)) q process from 8 ⌝ }
-{
-    let mut hit = false;
-    let mut p: usize = 0;
-    while p < 8 {
-        let at = 8 * q + p + 8;
-        let x = shelves[at];
-        hit = hit | (!(p == process) & (from < x));
-        p = p + 1;
-    }
-    hit
-}
-
-// Whether a NIL top pop has no cause, where all moments up to its end have been gone through.
+// Whether a NIL top pop has no cause, where all moments up to its end have been gone through: its queue holds a node, and has since its start, and no
+// other process took from the top of it since.
 fn uncaused(shelves: &[u32; 72], nil: Entry) -> bool
     requires { ⌜ (nil .queue < 8) × (nil .start < 32768) ⌝ }
     ensures { λ r. ⌜ r ≡ uncausedBy (now (shelves .entry)) nil ⌝ }
 {
     let on = nil.queue as usize;
+    let process = nil.process as usize;
     let from = 2 * (nil.start as u32);
+    let mut other = false;
+    let mut p: usize = 0;
+    while p < 8 {
+        let at = 8 * on + p + 8;
+        let x = shelves[at];
+        other = other | (!(p == process) & (from < x));
+        p = p + 1;
+    }
     let shelf = shelves[on];
-    let other = other_took(shelves, on, nil.process as usize, from);
     (65536 <= shelf) & (shelf % 65536 <= from) & !other
 }
 
