@@ -65,8 +65,10 @@ module _ (f : ℕ → Entry) (n : ℕ) (keys : List ℕ) (count : ℕ) (o : Orde
         zero-plus = omega arith
 
         after : before f n q (instant keys (suc k)) ≡ applied (what e) (e .node) (before f n q (instant keys k))
-        after = subst (λ (x : Entry). x .queue ≡ q → before f n q (instant keys (suc k)) ≡ applied (what x) (x .node) (before f n q (instant keys k))) (sym is)
-            (λ c. subst (λ (p : ℕ). before f n p (instant keys (suc k)) ≡ applied (what (f (indexAt keys k))) (f (indexAt keys k) .node) (before f n p (instant keys k))) c
+        after = subst (λ (x : Entry). x .queue ≡ q → before f n q (instant keys (suc k)) ≡ applied (what x) (x .node) (before f n q (instant keys k)))
+            (sym is)
+            (λ c. subst (λ (p : ℕ). before f n p (instant keys (suc k)) ≡ applied (what (f (indexAt keys k))) (f (indexAt keys k) .node)
+            (before f n p (instant keys k))) c
             (own-is f n keys count o k u)) d
 
   -- after all moments

@@ -189,13 +189,15 @@ module _ (f : ℕ → Entry) (n : ℕ) (keys : List ℕ) (count : ℕ) (o : Orde
             ∙ ap (λ (i : ℕ). f i .node) (e .is) ∙ g))
 
     -- the next call's node is stored; it counts where it was pushed
-    pub added-next : (t : Bool) → t ≡ isPush f keys k → from + c < length nodes → Added f keys from (k + 1) (set nodes (from + c) (f j .node)) (cond t (c + 1) c)
+    pub added-next : (t : Bool) → t ≡ isPush f keys k → from + c < length nodes
+        → Added f keys from (k + 1) (set nodes (from + c) (f j .node)) (cond t (c + 1) c)
     added-next false e small = record {
       few = omega (arith, s .few);
       sound = λ i u.
           let z = s .sound i u in
           let ne : from + i ≡ from + c → ⊥ = λ g. omega arith in
-          let v : getD (set nodes (from + c) (f j .node)) (from + i) 0 ≡ getD nodes (from + i) 0 = getD-set-other nodes (from + c) (from + i) (f j .node) 0 ne in
+          let v : getD (set nodes (from + c) (f j .node)) (from + i) 0 ≡ getD nodes (from + i) 0 =
+          getD-set-other nodes (from + c) (from + i) (f j .node) 0 ne in
           record { at = z .at; below = omega (arith, z .below); passes = rw v (z .passes) };
       all = λ a u t. all a u t (ℕ-discrete a k);
     }
@@ -226,7 +228,9 @@ module _ (f : ℕ → Entry) (n : ℕ) (keys : List ℕ) (count : ℕ) (o : Orde
         }
         sound i u (no g) =
             let z = s .sound i (omega arith) in
-            record { at = z .at; below = omega (arith, z .below); passes = rw (getD-set-other nodes (from + c) (from + i) (f j .node) 0 (λ d. g (omega arith))) (z .passes) }
+            let v : getD (set nodes (from + c) (f j .node)) (from + i) 0 ≡ getD nodes (from + i) 0 =
+            getD-set-other nodes (from + c) (from + i) (f j .node) 0 (λ d. g (omega arith)) in
+            record { at = z .at; below = omega (arith, z .below); passes = rw v (z .passes) }
 
         all : (a : ℕ) → a < k + 1 → isPush f keys a ≡ true → Dec (a ≡ k)
             → Found (λ i. eqb (getD (set nodes (from + c) (f j .node)) (from + i) 0) (f (indexAt keys a) .node)) (c + 1)

@@ -44,7 +44,8 @@ by-moment-requires c κs = let s = c .before .before .before .before in (small s
 returns : tie.Need-returns
 returns c =
     let a = c .before .before .before .before .before .before .before .before .before .args in
-    says3 (entryAt (a .log .now)) (a .n) (a .slots) _ _ (c .before .before .before .before .by-moment .ensures .0) (c .before .if1 .taken) (c .verdict-of .ensures)
+    says3 (entryAt (a .log .now)) (a .n) (a .slots) _ _ (c .before .before .before .before .by-moment .ensures .0) (c .before .if1 .taken)
+    (c .verdict-of .ensures)
 
 first-unlawful-requires : tie.Need-first-unlawful-requires
 first-unlawful-requires c κs =

@@ -120,7 +120,8 @@ broken c =
     c .uncaused .ensures
     ∙ query-told (fun r) (a .n) (keys-of r) (a .count) (start r .pre .0) (l .k) (l .inv .1) (l .shelves) (l .inv .3) (l .j) (below r) (l .inv .4)
     (got r) (is r)
-    (not-due (there d && early d) (indexAt (keys-of r) (at d)) (d .due .result) (d .due .ensures) (omega arith) (λ u. omega (arith, c .before .before .if2 .left)))
+    (not-due (there d && early d) (indexAt (keys-of r) (at d)) (d .due .result) (d .due .ensures) (omega arith)
+    (λ u. omega (arith, c .before .before .if2 .left)))
     (sym (r .top-nil .ensures) ∙ not-false _ (d .before .before .if1 .left))
 
 loop-holds : tie.Need-loop-holds Inv-loop μ-loop

@@ -23,8 +23,10 @@ loop-again : tie.Need-loop-again Inv-loop μ-loop
 loop-again c =
     let a = c .before .before .before .before .before .before .args in
     let e = a .nil in
-    let l = c .before .before .loop in
-    (search needs, any-next (λ x. not (eqb x (e .process)) && ltb (2 * e .start) (getD (a .shelves .now) (tookAt (e .queue) x) 0)) (l .p) (l .other) (l .inv .1))
+    let l = c .before .before .loop in (
+      search needs,
+      any-next (λ x. not (eqb x (e .process)) && ltb (2 * e .start) (getD (a .shelves .now) (tookAt (e .queue) x) 0)) (l .p) (l .other) (l .inv .1),
+    )
 
 returns : tie.Need-returns Inv-loop μ-loop
 returns c =

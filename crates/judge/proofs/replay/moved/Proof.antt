@@ -25,12 +25,14 @@ right c w r e h = h ∙ ap (λ (v : What). endsAfter v (ends c)) (sym e ∙ c .w
 returns : tie.Need-returns
 returns c =
     let r = c .before .before .before in
-    right r _ _ (c .before .enum-told2 .given .1) (sym (ap (λ (t : Bool). cond t (ends r) (ends r - 65536)) (le-leb (hiOf (ends r)) (loOf (ends r)) (c .if1 .taken))))
+    right r _ _ (c .before .enum-told2 .given .1)
+    (sym (ap (λ (t : Bool). cond t (ends r) (ends r - 65536)) (le-leb (hiOf (ends r)) (loOf (ends r)) (c .if1 .taken))))
 
 returns-2 : tie.Need-returns-2
 returns-2 c =
     let r = c .before .before .before in
-    right r _ _ (c .before .enum-told3 .given .1) (sym (ap (λ (t : Bool). cond t (ends r) (ends r + 1)) (le-leb (hiOf (ends r)) (loOf (ends r)) (c .if2 .taken))))
+    right r _ _ (c .before .enum-told3 .given .1)
+    (sym (ap (λ (t : Bool). cond t (ends r) (ends r + 1)) (le-leb (hiOf (ends r)) (loOf (ends r)) (c .if2 .taken))))
 
 returns-3 : tie.Need-returns-3
 returns-3 c = right (c .before .before) _ _ (c .enum-told .given .1) refl
@@ -38,12 +40,14 @@ returns-3 c = right (c .before .before) _ _ (c .enum-told .given .1) refl
 returns-4 : tie.Need-returns-4
 returns-4 c =
     let r = c .before .before .before in
-    right r _ _ (c .before .enum-told2 .given .1) (sym (ap (λ (t : Bool). cond t (ends r) (ends r - 65536)) (lt-leb (hiOf (ends r)) (loOf (ends r)) (c .if1 .left))))
+    right r _ _ (c .before .enum-told2 .given .1)
+    (sym (ap (λ (t : Bool). cond t (ends r) (ends r - 65536)) (lt-leb (hiOf (ends r)) (loOf (ends r)) (c .if1 .left))))
 
 returns-5 : tie.Need-returns-5
 returns-5 c =
     let r = c .before .before .before in
-    right r _ _ (c .before .enum-told3 .given .1) (sym (ap (λ (t : Bool). cond t (ends r) (ends r + 1)) (lt-leb (hiOf (ends r)) (loOf (ends r)) (c .if2 .left))))
+    right r _ _ (c .before .enum-told3 .given .1)
+    (sym (ap (λ (t : Bool). cond t (ends r) (ends r + 1)) (lt-leb (hiOf (ends r)) (loOf (ends r)) (c .if2 .left))))
 
 returns-6 : tie.Need-returns-6
 returns-6 c =
