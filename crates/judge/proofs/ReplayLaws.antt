@@ -123,14 +123,14 @@ module _ (f : ℕ → Entry) (n : ℕ) (keys : List ℕ) (count : ℕ) (o : Orde
       let p : ℕ → Bool = λ j. breaks4 f n j && eqb (f j .moment) (worst4 f n) in
       let y : p j ≡ true = and-i t (eq-eqb (f j .moment) (worst4 f n) (o .moment k u ∙ sym w)) in
       let h : first4 f n < n = omega (arith, first-hit p 0 n j (omega arith) (omega (arith, o .index k u)) y, o .index k u) in
-      let x = first-is p 0 n (omega arith) in
-      let v = event-of (first4 f n) h (and-0 (bears (f (first4 f n))) (not (lawfulAt f n (f (first4 f n))))
-      (and-0 (breaks4 f n (first4 f n)) (eqb (f (first4 f n) .moment) (worst4 f n)) x)) in
-      let m : momentAt keys k ≡ momentAt keys (v .at) = sym w
-      ∙ sym (eqb-true (f (first4 f n) .moment) (worst4 f n) (and-1 (breaks4 f n (first4 f n)) (eqb (f (first4 f n) .moment) (worst4 f n)) x))
-      ∙ sym (v .moment) in
-      ap (indexAt keys) (one-key k (v .at) u (v .below) m) ∙ v .is
+      at-first (first4 f n) h (first-is p 0 n (omega arith)) w
     where
+      at-first : (i : ℕ) → i < n → (breaks4 f n i && eqb (f i .moment) (worst4 f n)) ≡ true → worst4 f n ≡ momentAt keys k → indexAt keys k ≡ i
+      at-first i h x w =
+          let v = event-of i h (and-0 (bears (f i)) (not (lawfulAt f n (f i))) (and-0 (breaks4 f n i) (eqb (f i .moment) (worst4 f n)) x)) in
+          let g = eqb-true (f i .moment) (worst4 f n) (and-1 (breaks4 f n i) (eqb (f i .moment) (worst4 f n)) x) in
+          ap (indexAt keys) (one-key k (v .at) u (v .below) (sym w ∙ sym g ∙ sym (v .moment))) ∙ v .is
+
       same-moment : (i : ℕ) → breaks4 f n i ≡ true → (a : ℕ) → a < count → indexAt keys a ≡ i → momentAt keys a ≡ worst4 f n
           → worst4 f n ≤ momentAt keys k → Dec (a < k) → Dec (k < a) → worst4 f n ≡ momentAt keys k
       same-moment i b a v g m le (yes p) d = contra (breaks4 f n i) b (sym (ap (breaks4 f n) g) ∙ fine a p)
