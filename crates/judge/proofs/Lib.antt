@@ -8,6 +8,7 @@ pub mod DequeLaws
 pub mod EndLaws
 pub mod OrderLaws
 pub mod ReplayLaws
+pub mod NodeLaws
 pub mod RowLaws
 pub mod LeavesLaws
 pub mod ShelfLaws

@@ -17,14 +17,15 @@ use Rattle.log.specs.Numbers.{what, same, bearsMoment}
 use Rattle.log.proofs.NumbersLaws.{same-true}
 use Rattle.rules.specs.Search.{any}
 use Rattle.rules.specs.Contents.{bears, before, applied}
-use Rattle.rules.specs.Rules.{addedBefore, lawful, lawfulAt, breaks4}
-use Rattle.base.proofs.Bools.{contra, and-i, and-0, and-1, by-both}
-use Rattle.rules.proofs.SearchLaws.{Found, any-e, any-i}
+use Rattle.rules.specs.Rules.{addedBefore, fresh, lawful, lawfulAt, breaks4}
+use Rattle.base.proofs.Cases.{ever}
+use Rattle.base.proofs.Bools.{contra, and-i, and-0, and-1, not-so, by-both}
+use Rattle.rules.proofs.SearchLaws.{Found, any-e, any-i, any-no}
 use Rattle.judge.proofs.EndLaws.{zeros}
 use Rattle.judge.proofs.DequeLaws.{content-push, content-bottom, content-top, content-none, none-bottom, none-top}
 use Rattle.rules.proofs.ContentLaws.{before-start}
 use Rattle.judge.specs.inner.Order.{indexAt, instant, Fields, Ordered}
-use Rattle.judge.specs.inner.Replay.{newIn, loOf, hiOf, heldIn, endsAfter}
+use Rattle.judge.specs.inner.Replay.{Differ, newIn, loOf, hiOf, heldIn, endsAfter}
 use Rattle.judge.proofs.ReplayLaws.{event-of, passed-back, now-is, other-is, own-is}
 
 module _ (l : List ℕ) (lo hi i v : ℕ) where
@@ -103,38 +104,42 @@ pub record Row (f : ℕ → Entry) (n : ℕ) (keys : List ℕ) (width k : ℕ) (
 abbrev pub isPush : (ℕ → Entry) → List ℕ → ℕ → Bool
 isPush f keys a = same Pushed (what (f (indexAt keys a)))
 
--- the nodes pushed by the first k calls, which lie from some place on
-pub record Added (f : ℕ → Entry) (keys : List ℕ) (from k : ℕ) (nodes : List ℕ) (c : ℕ) : Type 0 where
+-- the nodes pushed by the first k calls, which lie from some place on, where they are watched; else none, and the nodes of all pushes differ
+pub record Added (watch : Bool) (f : ℕ → Entry) (n : ℕ) (keys : List ℕ) (from k : ℕ) (nodes : List ℕ) (c : ℕ) : Type 0 where
   pub few : c ≤ k
   pub sound : (i : ℕ) → i < c → Found (λ a. isPush f keys a && eqb (f (indexAt keys a) .node) (getD nodes (from + i) 0)) k
-  pub all : (a : ℕ) → a < k → isPush f keys a ≡ true → Found (λ i. eqb (getD nodes (from + i) 0) (f (indexAt keys a) .node)) c
+  pub all : watch ≡ true → (a : ℕ) → a < k → isPush f keys a ≡ true → Found (λ i. eqb (getD nodes (from + i) 0) (f (indexAt keys a) .node)) c
+  pub none : watch ≡ false → c ≡ 0
+  pub differ : watch ≡ false → Differ f n
 
 -- a store before that place
-added-kept : (f : ℕ → Entry) (keys : List ℕ) (from k : ℕ) (nodes : List ℕ) (c at v : ℕ) → at < from → Added f keys from k nodes c
-    → Added f keys from k (set nodes at v) c
-added-kept f keys from k nodes c at v u s = record {
+added-kept : (watch : Bool) (f : ℕ → Entry) (n : ℕ) (keys : List ℕ) (from k : ℕ) (nodes : List ℕ) (c at v : ℕ) → at < from
+    → Added watch f n keys from k nodes c → Added watch f n keys from k (set nodes at v) c
+added-kept watch f n keys from k nodes c at v u s = record {
   few = s .few;
   sound = λ i w. let z = s .sound i w in record { at = z .at; below = z .below; passes = rw (still i) (z .passes) };
-  all = λ a w t. let z = s .all a w t in record { at = z .at; below = z .below; passes = rw (still (z .at)) (z .passes) };
+  all = λ b a w t. let z = s .all b a w t in record { at = z .at; below = z .below; passes = rw (still (z .at)) (z .passes) };
+  none = s .none;
+  differ = s .differ;
 }
   where
     still : (i : ℕ) → getD (set nodes at v) (from + i) 0 ≡ getD nodes (from + i) 0
     still i = getD-set-other nodes at (from + i) v 0 (λ e. omega arith)
 
-pub record Replayed (f : ℕ → Entry) (n : ℕ) (keys : List ℕ) (width k : ℕ) (nodes ends : List ℕ) (c : ℕ) : Type 0 where
+pub record Replayed (watch : Bool) (f : ℕ → Entry) (n : ℕ) (keys : List ℕ) (width k : ℕ) (nodes ends : List ℕ) (c : ℕ) : Type 0 where
   pub nodes-long : length nodes ≡ 9 * width
   pub ends-long : length ends ≡ 8
   pub row : (q : ℕ) → q < 8 → Row f n keys width k nodes q (getD ends q 0)
-  pub pushes : Added f keys (8 * width) k nodes c
+  pub pushes : Added watch f n keys (8 * width) k nodes c
   pub fine : (a : ℕ) → a < k → breaks4 f n (indexAt keys a) ≡ false
 
 -- a row ends before a later one begins
 rows-apart : (width p q : ℕ) → p < q → width * p + width ≤ width * q
 rows-apart width p q u = omega (arith, mul-suc width p, mul-le-mul-left {m = suc p} {n = q} width (omega arith))
 
-pub replay-start : (f : ℕ → Entry) (n : ℕ) (keys : List ℕ) (width : ℕ) (nodes : List ℕ) → length nodes ≡ 9 * width
-    → Replayed f n keys width 0 nodes (replicate 8 0) 0
-replay-start f n keys width nodes h = record {
+pub replay-start : (watch : Bool) (f : ℕ → Entry) (n : ℕ) (keys : List ℕ) (width : ℕ) (nodes : List ℕ) → (watch ≡ false → Differ f n)
+    → length nodes ≡ 9 * width → Replayed watch f n keys width 0 nodes (replicate 8 0) 0
+replay-start watch f n keys width nodes d h = record {
   nodes-long = h;
   ends-long = refl;
   row = λ q u. let e = zeros 8 q in record {
@@ -143,7 +148,13 @@ replay-start f n keys width nodes h = record {
     low = omega (arith, e);
     high = omega (arith, e);
   };
-  pushes = record { few = omega arith; sound = λ i u. absurd (omega arith); all = λ a u t. absurd (omega arith) };
+  pushes = record {
+    few = omega arith;
+    sound = λ i u. absurd (omega arith);
+    all = λ w a u t. absurd (omega arith);
+    none = λ w. refl;
+    differ = d;
+  };
   fine = λ a u. absurd (omega arith);
 }
 
@@ -154,10 +165,10 @@ module _ (f : ℕ → Entry) (n : ℕ) (keys : List ℕ) (count : ℕ) (o : Orde
   abbrev j : ℕ
   j = indexAt keys k
 
-  module _ (from : ℕ) (nodes : List ℕ) (c : ℕ) (s : Added f keys from k nodes c) where
+  module _ (from : ℕ) (nodes : List ℕ) (c : ℕ) (s : Added true f n keys from k nodes c) where
     -- whether the node was added before
-    pub fresh-is : any (λ i. eqb (getD nodes (from + i) 0) (f j .node)) c ≡ any (λ x. addedBefore (f j) (f x)) n
-    fresh-is = by-both (any (λ i. eqb (getD nodes (from + i) 0) (f j .node)) c) (any (λ x. addedBefore (f j) (f x)) n)
+    fresh-watched : any (λ i. eqb (getD nodes (from + i) 0) (f j .node)) c ≡ any (λ x. addedBefore (f j) (f x)) n
+    fresh-watched = by-both (any (λ i. eqb (getD nodes (from + i) 0) (f j .node)) c) (any (λ x. addedBefore (f j) (f x)) n)
         (λ h. to (any-e (λ i. eqb (getD nodes (from + i) 0) (f j .node)) c h)) (λ h. back (any-e (λ x. addedBefore (f j) (f x)) n h))
       where
         to : Found (λ i. eqb (getD nodes (from + i) 0) (f j .node)) c → any (λ x. addedBefore (f j) (f x)) n ≡ true
@@ -183,15 +194,15 @@ module _ (f : ℕ → Entry) (n : ℕ) (keys : List ℕ) (count : ℕ) (o : Orde
             (ltb (f x .moment) (f j .moment)) (z .passes)) in
             let e = event-of f n keys count o x (z .below) (pushed-bears (what (f x)) p) in
             let u = passed-back f n keys count o (e .at) k (e .below) inside (omega (arith, e .moment, o .moment k inside)) in
-            let y = s .all (e .at) u (ap (λ (i : ℕ). same Pushed (what (f i))) (e .is) ∙ p) in
+            let y = s .all refl (e .at) u (ap (λ (i : ℕ). same Pushed (what (f i))) (e .is) ∙ p) in
             any-i (λ i. eqb (getD nodes (from + i) 0) (f j .node)) c (y .at) (y .below)
             (eq-eqb (getD nodes (from + y .at) 0) (f j .node) (eqb-true (getD nodes (from + y .at) 0) (f (indexAt keys (e .at)) .node) (y .passes)
             ∙ ap (λ (i : ℕ). f i .node) (e .is) ∙ g))
 
     -- the next call's node is stored; it counts where it was pushed
-    pub added-next : (t : Bool) → t ≡ isPush f keys k → from + c < length nodes
-        → Added f keys from (k + 1) (set nodes (from + c) (f j .node)) (cond t (c + 1) c)
-    added-next false e small = record {
+    next-watched : (t : Bool) → t ≡ isPush f keys k → from + c < length nodes
+        → Added true f n keys from (k + 1) (set nodes (from + c) (f j .node)) (cond t (c + 1) c)
+    next-watched false e small = record {
       few = omega (arith, s .few);
       sound = λ i u.
           let z = s .sound i u in
@@ -199,20 +210,24 @@ module _ (f : ℕ → Entry) (n : ℕ) (keys : List ℕ) (count : ℕ) (o : Orde
           let v : getD (set nodes (from + c) (f j .node)) (from + i) 0 ≡ getD nodes (from + i) 0 =
           getD-set-other nodes (from + c) (from + i) (f j .node) 0 ne in
           record { at = z .at; below = omega (arith, z .below); passes = rw v (z .passes) };
-      all = λ a u t. all a u t (ℕ-discrete a k);
+      all = λ w a u t. all a u t (ℕ-discrete a k);
+      none = λ w. ever w;
+      differ = s .differ;
     }
       where
         all : (a : ℕ) → a < k + 1 → isPush f keys a ≡ true → Dec (a ≡ k)
             → Found (λ i. eqb (getD (set nodes (from + c) (f j .node)) (from + i) 0) (f (indexAt keys a) .node)) c
         all a u t (yes g) = contra (isPush f keys a) t (ap (isPush f keys) g ∙ sym e)
         all a u t (no g) =
-            let z = s .all a (omega arith) t in
+            let z = s .all refl a (omega arith) t in
             let ne : from + z .at ≡ from + c → ⊥ = λ g. omega (arith, z .below) in
             record { at = z .at; below = z .below; passes = rw (getD-set-other nodes (from + c) (from + z .at) (f j .node) 0 ne) (z .passes) }
-    added-next true e small = record {
+    next-watched true e small = record {
       few = omega (arith, s .few);
       sound = λ i u. sound i u (ℕ-discrete i c);
-      all = λ a u t. all a u t (ℕ-discrete a k);
+      all = λ w a u t. all a u t (ℕ-discrete a k);
+      none = λ w. ever w;
+      differ = s .differ;
     }
       where
         here : getD (set nodes (from + c) (f j .node)) (from + c) 0 ≡ f j .node
@@ -241,11 +256,42 @@ module _ (f : ℕ → Entry) (n : ℕ) (keys : List ℕ) (count : ℕ) (o : Orde
               (here ∙ ap (λ (x : ℕ). f (indexAt keys x) .node) (sym g));
         }
         all a u t (no g) =
-            let z = s .all a (omega arith) t in
+            let z = s .all refl a (omega arith) t in
             let ne : from + z .at ≡ from + c → ⊥ = λ g. omega (arith, z .below) in
             record { at = z .at; below = omega (arith, z .below); passes = rw (getD-set-other nodes (from + c) (from + z .at) (f j .node) 0 ne) (z .passes) }
 
-  module _ (width : ℕ) (nodes ends : List ℕ) (c : ℕ) (s : Replayed f n keys width k nodes ends c) (fits : n ≤ width) (small : width ≤ 256)
+  -- whether the node of a push was added before, and what the next call adds, watched or not
+  pub fresh-is : (watch : Bool) (from : ℕ) (nodes : List ℕ) (c : ℕ) → Added watch f n keys from k nodes c → isPush f keys k ≡ true
+      → any (λ i. eqb (getD nodes (from + i) 0) (f j .node)) c ≡ any (λ x. addedBefore (f j) (f x)) n
+  fresh-is true from nodes c s p = fresh-watched from nodes c s
+  fresh-is false from nodes c s p =
+      ap (any (λ i. eqb (getD nodes (from + i) 0) (f j .node))) (s .none refl)
+      ∙ sym (any-no (λ x. addedBefore (f j) (f x)) n (λ x u. not-so (addedBefore (f j) (f x)) (twice x u)))
+    where
+      twice : (x : ℕ) → x < n → addedBefore (f j) (f x) ≡ true → ⊥
+      twice x u t =
+          let h = and-0 (same Pushed (what (f x)) && eqb (f x .node) (f j .node)) (ltb (f x .moment) (f j .moment)) t in
+          let e = s .differ refl x j u (o .index k inside) (and-0 (same Pushed (what (f x))) (eqb (f x .node) (f j .node)) h) p
+          (eqb-true (f x .node) (f j .node) (and-1 (same Pushed (what (f x))) (eqb (f x .node) (f j .node)) h)) in
+          let m = ltb-true (f x .moment) (f j .moment) (and-1 (same Pushed (what (f x)) && eqb (f x .node) (f j .node))
+          (ltb (f x .moment) (f j .moment)) t) in
+          omega (arith, m, ap (λ (i : ℕ). f i .moment) e)
+
+  added-next : (watch : Bool) (from : ℕ) (nodes : List ℕ) (c : ℕ) → Added watch f n keys from k nodes c → (t : Bool) → t ≡ isPush f keys k
+      → from + c < length nodes → Added watch f n keys from (k + 1) (set nodes (from + c) (f j .node)) (cond (t && watch) (c + 1) c)
+  added-next true from nodes c s true e small = next-watched from nodes c s true e small
+  added-next true from nodes c s false e small = next-watched from nodes c s false e small
+  added-next false from nodes c s t e small =
+      let z : cond (t && false) (c + 1) c ≡ 0 = ap (λ (b : Bool). cond b (c + 1) c) (and-false t) ∙ s .none refl in
+      subst (Added false f n keys from (k + 1) (set nodes (from + c) (f j .node))) (sym z) (record {
+        few = omega arith;
+        sound = λ i u. absurd (omega arith);
+        all = λ w. ever (sym w);
+        none = λ w. refl;
+        differ = s .differ;
+      })
+
+  module _ (watch : Bool) (width : ℕ) (nodes ends : List ℕ) (c : ℕ) (s : Replayed watch f n keys width k nodes ends c) (fits : n ≤ width) (small : width ≤ 256)
       (fields : Fields f n) where
     abbrev q : ℕ
     q = f j .queue
@@ -269,7 +315,19 @@ module _ (f : ℕ → Entry) (n : ℕ) (keys : List ℕ) (count : ℕ) (o : Orde
     ok-is =
         ap (λ (d : List ℕ). lawful (newIn nodes (8 * width) c (f j .node)) (what (f j)) (f j .node) d)
         (mine .holds ∙ sym (now-is f n keys count o q k inside) ∙ ap (before f n q) (sym (o .moment k inside)))
-        ∙ ap (λ (t : Bool). lawful (not t) (what (f j)) (f j .node) (before f n q (f j .moment))) (fresh-is (8 * width) nodes c (s .pushes))
+        ∙ by-push (what (f j)) refl
+      where
+        d : List ℕ
+        d = before f n q (f j .moment)
+
+        by-push : (w : What) → what (f j) ≡ w → lawful (newIn nodes (8 * width) c (f j .node)) w (f j .node) d ≡ lawful (fresh f n (f j)) w (f j .node) d
+        by-push Pushed e = ap not (fresh-is watch (8 * width) nodes c (s .pushes) (ap (same Pushed) e))
+        by-push Full e = refl
+        by-push BottomNode e = refl
+        by-push BottomNil e = refl
+        by-push TopNode e = refl
+        by-push TopNil e = refl
+        by-push TopLost e = refl
 
     abbrev nodes₁ : List ℕ
     nodes₁ = set nodes (width * q + hiOf at) (f j .node)
@@ -321,12 +379,12 @@ module _ (f : ℕ → Entry) (n : ℕ) (keys : List ℕ) (count : ℕ) (o : Orde
     }
 
     -- one turn, of a lawful call
-    replay-next : lawfulAt f n (f j) ≡ true → Replayed f n keys width (k + 1) nodes₂ ends₁ (cond (isPush f keys k) (c + 1) c)
+    replay-next : lawfulAt f n (f j) ≡ true → Replayed watch f n keys width (k + 1) nodes₂ ends₁ (cond (isPush f keys k && watch) (c + 1) c)
     replay-next ok = record {
       nodes-long = simp length-set (s .nodes-long);
       ends-long = simp length-set (s .ends-long);
       row = λ x u. rows-kept x (getD ends₁ x 0) u (rows-next x u (ℕ-discrete x q));
-      pushes = added-next (8 * width) nodes₁ c (added-kept f keys (8 * width) k nodes c (width * q + hiOf at) (f j .node) hi-low (s .pushes))
+      pushes = added-next watch (8 * width) nodes₁ c (added-kept watch f n keys (8 * width) k nodes c (width * q + hiOf at) (f j .node) hi-low (s .pushes))
           (isPush f keys k) refl (simp length-set (omega (arith, added-low, s .nodes-long)));
       fine = λ a u. fine a u (ℕ-discrete a k);
     }
@@ -344,9 +402,9 @@ module _ (f : ℕ → Entry) (n : ℕ) (keys : List ℕ) (count : ℕ) (o : Orde
       pub high : width * e .queue + hiOf (getD ends (e .queue) 0) < 8 * width
       pub few : getD ends (e .queue) 0 < 2 ^ 25
       pub ok : lawful (newIn nodes (8 * width) c (e .node)) (what e) (e .node) (heldIn nodes (width * e .queue) (getD ends (e .queue) 0)) ≡ lawfulAt f n (f j)
-      pub turn : lawfulAt f n (f j) ≡ true → Replayed f n keys width (k + 1)
+      pub turn : lawfulAt f n (f j) ≡ true → Replayed watch f n keys width (k + 1)
           (set (set nodes (width * e .queue + hiOf (getD ends (e .queue) 0)) (e .node)) (8 * width + c) (e .node))
-          (set ends (e .queue) (endsAfter (what e) (getD ends (e .queue) 0))) (cond (same Pushed (what e)) (c + 1) c)
+          (set ends (e .queue) (endsAfter (what e) (getD ends (e .queue) 0))) (cond (same Pushed (what e) && watch) (c + 1) c)
 
     pub told : (e : Entry) → e ≡ f j → Told e
     told e e₁ = subst Told (sym e₁)

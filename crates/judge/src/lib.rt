@@ -12,6 +12,7 @@ mod read; // an entry
 mod fields; // rule 1
 mod ends; // rule 2
 mod order; // rule 3, and the calls by rising moment
+mod nodes; // whether the pushed nodes differ
 mod replay; // rule 4
 mod causes; // rule 5
 mod full; // rule 6
@@ -85,7 +86,8 @@ fn moment_rules_in(
         return verdict_of(16, j3);
     }
     let count = sorted.count;
-    let j4 = replay::first_unlawful(log, n, keys, count, nodes, width);
+    let watch = nodes::watched(log, n, count);
+    let j4 = replay::first_unlawful(log, n, keys, count, nodes, width, watch);
     if j4 < n {
         return verdict_of(17, j4);
     }

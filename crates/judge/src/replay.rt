@@ -1,6 +1,7 @@
 // Rule 4: all queues at once, by rising moments. Queue q's nodes lie in the q-th row, from lo, the top, up to hi; its ends are 65,536 × hi + lo. In a ninth
 // row lie all nodes that were pushed.
 ghost use mathlib.Core.Path.{_≡_};
+ghost use mathlib.Core.Bool.{false};
 ghost use Prim.Native.Nat.{_+_, _^_, _/_, _≤_, _<_};
 ghost use lib.Dec.{eqb};
 ghost use lib.ListN.{getD, length};
@@ -10,7 +11,7 @@ ghost use Rattle.rules.specs.Search.{any};
 ghost use Rattle.rules.specs.Rules.{lawful as lawfulIs};
 ghost use Rattle.rules.specs.Judge.{first4};
 ghost use Rattle.judge.specs.inner.Order.{Fields, Ordered, Whole};
-ghost use Rattle.judge.specs.inner.Replay.{newIn, endsAfter, heldIn, Roomy};
+ghost use Rattle.judge.specs.inner.Replay.{Differ, newIn, endsAfter, heldIn, Roomy};
 use crate::fields::choose;
 use crate::fields::pushed;
 use crate::read::entry;
@@ -85,7 +86,7 @@ pub(crate) fn moved(ends: usize, e: Entry) -> usize
 }
 
 // The entry that breaks rule 4, the first by moment, or n. The node is put above each queue's bottom by every call; only a push then moves the bottom
-// over it.
+// over it. The pushed nodes are watched where it is not known that they differ.
 pub(crate) fn first_unlawful(
     log: &[u8],
     n: usize,
@@ -93,8 +94,9 @@ pub(crate) fn first_unlawful(
     count: usize,
     nodes: &mut [u16],
     width: usize,
+    watch: bool,
 ) -> usize
-    requires { ⌜ Fields (entryAt (now log)) n × Ordered (entryAt (now log)) n (now keys) count × Whole (now log) n × Roomy n width (now keys) (now nodes) ⌝ }
+    requires { ⌜ Fields (entryAt (now log)) n × Ordered (entryAt (now log)) n (now keys) count × Whole (now log) n × Roomy n width (now keys) (now nodes) × (watch ≡ false → Differ (entryAt (now log)) n) ⌝ }
     ensures { λ r. ⌜ r ≡ first4 (entryAt (now (log .entry))) n ⌝ }
 {
     let from = 8 * width;
@@ -113,7 +115,7 @@ pub(crate) fn first_unlawful(
         nodes[row + at / 65536] = e.node;
         ends[q] = moved(at, e);
         nodes[from + c] = e.node;
-        c = choose(pushed(e), c + 1, c);
+        c = choose(pushed(e) & watch, c + 1, c);
         k = k + 1;
     }
     n

@@ -17,7 +17,7 @@ abbrev start1 : tie.Else1 → tie.Start
 start1 c = c .before .before .before .before .before .before .before .before
 
 abbrev start2 : tie.Else2 → tie.Start
-start2 c = start1 (c .before .before .before .before .before .before)
+start2 c = start1 (c .before .before .before .before .before .before .before)
 
 abbrev log-of : tie.Start → ℕ → Entry
 log-of s = entryAt (s .args .log .now)
@@ -49,14 +49,14 @@ returns c =
 
 first-unlawful-requires : tie.Need-first-unlawful-requires
 first-unlawful-requires c κs =
-    let e3 = c .before .before in
+    let e3 = c .before .before .before in
     let p = start1 e3 .pre in
     let r = p .3 in
-    (p .0, ordered e3, p .2, record { fits = r .fits; keyed = keyed e3; small = r .small; rows = r .rows })
+    (p .0, ordered e3, p .2, record { fits = r .fits; keyed = keyed e3; small = r .small; rows = r .rows }, c .before .before .watched .ensures)
 
 returns-2 : tie.Need-returns-2
 returns-2 c =
-    let e3 = c .before .before .before .before .before .before .before in
+    let e3 = c .before .before .before .before .before .before .before .before in
     let a = start1 e3 .args in
     says4 (log-of (start1 e3)) (a .n) (a .slots) _ (kept3 e3) _ (c .before .before .before .before .first-unlawful .ensures) (c .before .if2 .taken)
     (c .verdict-of2 .ensures)
@@ -64,7 +64,7 @@ returns-2 c =
 last-rules-requires : tie.Need-last-rules-requires
 last-rules-requires c κs =
     let e4 = c .before in
-    let e3 = e4 .before .before .before .before .before .before in
+    let e3 = e4 .before .before .before .before .before .before .before in
     let s = start1 e3 in (
       record {
         small = small s;
@@ -86,6 +86,7 @@ moment-rules-in-spec =
     (λ c κs. search needs)
     (λ c. search needs)
     returns
+    (λ c κs. search needs)
     first-unlawful-requires
     (λ c κs. search needs)
     (λ c. search needs)

@@ -1,14 +1,15 @@
 -- A queue's nodes between two places of a row, and what a call makes of them.
 use mathlib.Core.Path.{_≡_}
-use mathlib.Core.Bool.{Bool, cond, not}
+use mathlib.Core.Bool.{Bool, true, cond, not}
 use mathlib.Core.List.{List}
-use Prim.Native.Nat.{ℕ, _+_, _-_, _*_, _/_, _%_, _≤_}
+use Prim.Native.Nat.{ℕ, _+_, _-_, _*_, _/_, _%_, _≤_, _<_}
 use lib.Dec.{eqb, leb}
 use lib.ListN.{length, getD}
 use lib.Seq.{slice}
 use Rattle.log.specs.declared.Entry.{Entry}
 use Rattle.log.specs.declared.What.{What}
 use Rattle.log.specs.declared.What.the-variants.{Pushed, Full, BottomNode, BottomNil, TopNode, TopNil, TopLost}
+use Rattle.log.specs.Numbers.{what, same}
 use Rattle.rules.specs.Search.{any}
 use Rattle.rules.specs.Left.{leftIn}
 
@@ -34,6 +35,10 @@ endsAfter BottomNil s = s
 endsAfter TopNode s = cond (leb (hiOf s) (loOf s)) s (s + 1)
 endsAfter TopNil s = s
 endsAfter TopLost s = s
+
+-- no two pushes of a log are of one node
+abbrev pub Differ : (ℕ → Entry) → ℕ → Type 0
+Differ f n = (i j : ℕ) → i < n → j < n → same Pushed (what (f i)) ≡ true → same Pushed (what (f j)) ≡ true → f i .node ≡ f j .node → i ≡ j
 
 -- arrays with room for n entries: the nodes of eight queues lie in rows of this width, queue q's from width × q on, and after them all that were pushed
 pub record Roomy (n width : ℕ) (keys nodes : List ℕ) : Type 0 where

@@ -17,10 +17,10 @@ use Rattle.judge.proofs.replay.first_unlawful.Statement.{statement}
 use Rattle.judge.proofs.replay.first_unlawful.Tie as tie
 
 abbrev Inv-loop : tie.InvT-loop
-Inv-loop log n keys count nodes₀ width from ends₀ c₀ k₀ nodes ends c k = (k ≤ count) × Replayed (entryAt log) n keys width k nodes ends c
+Inv-loop log n keys count nodes₀ width watch from ends₀ c₀ k₀ nodes ends c k = (k ≤ count) × Replayed watch (entryAt log) n keys width k nodes ends c
 
 abbrev μ-loop : tie.MeasureT-loop
-μ-loop log n keys count nodes₀ width from ends₀ c₀ k₀ nodes ends c k = count - k
+μ-loop log n keys count nodes₀ width watch from ends₀ c₀ k₀ nodes ends c k = count - k
 
 -- where the entry has been read: the start, the loop's variables, and the entry
 abbrev Read : Type 0
@@ -50,14 +50,14 @@ got c = c .entry .result
 is : (c : Read) → got c ≡ fun c (indexAt (keys c) (at c))
 is c = c .entry .ensures
 
-told-of : (c : Read) → Told (fun c) (start c .args .n) (keys c) (start c .args .count) (start c .pre .1) (at c) (below c) (start c .args .width)
+told-of : (c : Read) → Told (fun c) (start c .args .n) (keys c) (start c .args .count) (start c .pre .1) (at c) (below c) (start c .args .watch) (start c .args .width)
     (loop-at c .loop .nodes) (loop-at c .loop .ends) (loop-at c .loop .c) (loop-at c .loop .inv .1) (start c .pre .3 .fits)
     (start c .pre .3 .small) (start c .pre .0) (got c)
 told-of c =
     let l = loop-at c .loop in
     let a = start c .args in
     let p = start c .pre in
-    told (fun c) (a .n) (keys c) (a .count) (p .1) (l .k) (below c) (a .width) (l .nodes) (l .ends) (l .c) (l .inv .1) (p .3 .fits) (p .3 .small)
+    told (fun c) (a .n) (keys c) (a .count) (p .1) (l .k) (below c) (a .watch) (a .width) (l .nodes) (l .ends) (l .c) (l .inv .1) (p .3 .fits) (p .3 .small)
     (p .0) (got c) (is c)
 
 narrow : (c : Read) → start c .args .width ≤ 256
@@ -68,7 +68,7 @@ few c =
     let l = loop-at c .loop in
     let a = start c .args in
     let p = start c .pre in
-    added-low (fun c) (a .n) (keys c) (a .count) (p .1) (l .k) (below c) (a .width) (l .nodes) (l .ends) (l .c) (l .inv .1) (p .3 .fits)
+    added-low (fun c) (a .n) (keys c) (a .count) (p .1) (l .k) (below c) (a .watch) (a .width) (l .nodes) (l .ends) (l .c) (l .inv .1) (p .3 .fits)
     (p .3 .small) (p .0)
 
 -- where it has been judged
@@ -84,8 +84,8 @@ ok-is c = c .lawful .ensures ∙ told-of (read c) .ok
 loop-holds : tie.Need-loop-holds Inv-loop μ-loop
 loop-holds c =
     let a = c .before .before .before .args in
-    let p = c .before .before .before .pre .3 in
-    (search needs, replay-start (entryAt (a .log .now)) (a .n) (a .keys .now) (a .width) (a .nodes .now) (p .rows))
+    let p = c .before .before .before .pre in
+    (search needs, replay-start (a .watch) (entryAt (a .log .now)) (a .n) (a .keys .now) (a .width) (a .nodes .now) (p .4) (p .3 .rows))
 
 mul-j : tie.Need-mul-j Inv-loop μ-loop
 mul-j c = let p = c .before .before .before .before .before .pre in omega (arith, c .loop-test .taken, p .1 .few, p .3 .fits, p .3 .small)
@@ -129,7 +129,7 @@ returns c =
     let a = start r .args in
     let p = start r .pre in
     worst-is (fun r) (a .n) (keys r) (a .count) (p .1) (l .k) (below r)
-    (wrong-is (fun r) (a .n) (keys r) (a .count) (p .1) (l .k) (below r) (a .width) (l .nodes) (l .ends) (l .c) (l .inv .1) (p .3 .fits)
+    (wrong-is (fun r) (a .n) (keys r) (a .count) (p .1) (l .k) (below r) (a .watch) (a .width) (l .nodes) (l .ends) (l .c) (l .inv .1) (p .3 .fits)
     (p .3 .small) (p .0) (sym (ok-is (c .before)) ∙ not-true _ (c .if1 .taken)))
     (l .inv .1 .fine)
 
