@@ -14,18 +14,18 @@ use Rattle.log.specs.declared.Entry.{Entry}
 use Rattle.log.specs.declared.What.{What}
 use Rattle.log.specs.declared.What.the-variants.{Pushed, Full, BottomNode, BottomNil, TopNode, TopNil, TopLost}
 use Rattle.log.specs.Numbers.{what, same}
-use Rattle.rules.specs.Search.{first}
+use Rattle.rules.specs.Search.{first, any}
 use Rattle.rules.specs.Rules.{did, since, breaks6}
-use Rattle.rules.proofs.SearchLaws.{first-none, none-passes}
+use Rattle.rules.proofs.SearchLaws.{first-none, any-none}
 use Rattle.judge.proofs.EndLaws.{zeros}
-use Rattle.judge.specs.inner.Order.{Fields}
+use Rattle.judge.specs.inner.Order.{Fields, isFull}
 use Rattle.judge.specs.inner.Full.{countsAfter}
 
 -- where no entry is a FULL, none breaks rule 6
-pub none-unfilled : (f : ℕ → Entry) (n C : ℕ) → n ≤ first (λ i. same Full (what (f i))) 0 n → n ≡ first (breaks6 f C) 0 n
+pub none-unfilled : (f : ℕ → Entry) (n C : ℕ) → any (isFull f) n ≡ false → n ≡ first (breaks6 f C) 0 n
 none-unfilled f n C h =
     let unbroken : (j : ℕ) → 0 ≤ j → j < 0 + n → breaks6 f C j ≡ false =
-    λ j l u. rw (none-passes (λ i. same Full (what (f i))) n h j (omega (arith, u))) in
+    λ j l u. rw (any-none (isFull f) n h j (omega (arith, u))) in
     omega (arith, first-none (breaks6 f C) 0 n unbroken)
 
 -- how many calls count on each queue before entry j

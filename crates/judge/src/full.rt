@@ -1,11 +1,11 @@
 // Rule 6: one pass in file order. A NIL bottom pop begins its queue's counts anew.
 ghost use mathlib.Core.Path.{_≡_};
 ghost use Prim.Native.Nat.{_^_, _≤_, _<_};
-ghost use Rattle.log.specs.Numbers.{what as whatIs, same};
+ghost use Rattle.log.specs.Numbers.{what as whatIs};
 ghost use Rattle.log.specs.Decode.{entryAt};
-ghost use Rattle.rules.specs.Search.{first};
+ghost use Rattle.rules.specs.Search.{any};
 ghost use Rattle.rules.specs.Judge.{first6};
-ghost use Rattle.judge.specs.inner.Order.{Fields, Whole};
+ghost use Rattle.judge.specs.inner.Order.{Fields, Whole, isFull};
 ghost use Rattle.judge.specs.inner.Full.{countsAfter};
 use crate::fields::full;
 use crate::read::entry;
@@ -26,28 +26,12 @@ fn counts_after(e: Entry, counts: usize) -> usize
     }
 }
 
-// The first FULL, or n.
-fn first_full(log: &[u8], n: usize) -> usize
-    requires { ⌜ (n ≤ 256) × Whole (now log) n ⌝ }
-    ensures { λ r. ⌜ r ≡ first (λ i. same What.Full (whatIs (entryAt (now (log .entry)) i))) 0 n ⌝ }
-{
-    let mut i: usize = 0;
-    while i < n {
-        let e = entry(log, i);
-        if full(e) {
-            return i;
-        }
-        i = i + 1;
-    }
-    i
-}
-
 // The first entry that breaks rule 6, or n. Few logs have a FULL, and where there is none nothing is counted.
-pub(crate) fn first_unfilled(log: &[u8], n: usize, slots: u8) -> usize
-    requires { ⌜ (n ≤ 256) × Fields (entryAt (now log)) n × Whole (now log) n ⌝ }
+pub(crate) fn first_unfilled(log: &[u8], n: usize, slots: u8, refused: bool) -> usize
+    requires { ⌜ (n ≤ 256) × Fields (entryAt (now log)) n × Whole (now log) n × (refused ≡ any (isFull (entryAt (now log))) n) ⌝ }
     ensures { λ r. ⌜ r ≡ first6 (entryAt (now (log .entry))) n slots ⌝ }
 {
-    if first_full(log, n) < n {
+    if refused {
         unfilled_by_counts(log, n, slots)
     } else {
         n

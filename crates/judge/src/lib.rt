@@ -3,9 +3,10 @@ ghost use mathlib.Core.Path.{_≡_};
 ghost use Prim.Native.Nat.{_≤_, _<_};
 ghost use Rattle.log.specs.Decode.{entryAt};
 ghost use lib.ListN.{length};
-ghost use Rattle.judge.specs.inner.Order.{Fields, EndsKept, Whole};
+ghost use Rattle.judge.specs.inner.Order.{Fields, EndsKept, Whole, isFull};
 ghost use Rattle.judge.specs.inner.Replay.{Roomy};
 ghost use Rattle.judge.specs.inner.Causes.{Clean, Kept34};
+ghost use Rattle.rules.specs.Search.{any};
 ghost use Rattle.rules.specs.Judge.{says, momentRulesOf, rulesOf, headRight, judgeOf};
 
 mod read; // an entry
@@ -91,19 +92,26 @@ fn moment_rules_in(
     if j4 < n {
         return verdict_of(17, j4);
     }
-    last_rules(log, n, slots, keys, count)
+    last_rules(log, n, slots, keys, count, sorted.full)
 }
 
 // Rules 5 and 6, where the others are kept.
-fn last_rules(log: &[u8], n: usize, slots: u8, keys: &[usize], count: usize) -> Verdict
-    requires { ⌜ Clean (entryAt (now log)) n (now keys) count × Whole (now log) n × (n ≤ length (now keys)) × Kept34 (entryAt (now log)) n ⌝ }
+fn last_rules(
+    log: &[u8],
+    n: usize,
+    slots: u8,
+    keys: &[usize],
+    count: usize,
+    refused: bool,
+) -> Verdict
+    requires { ⌜ Clean (entryAt (now log)) n (now keys) count × Whole (now log) n × (n ≤ length (now keys)) × Kept34 (entryAt (now log)) n × (refused ≡ any (isFull (entryAt (now log))) n) ⌝ }
     ensures { λ r. ⌜ r ≡ momentRulesOf (entryAt (now (log .entry))) n slots ⌝ }
 {
     let j5 = causes::first_uncaused(log, n, keys, count);
     if j5 < n {
         return verdict_of(18, j5);
     }
-    let j6 = full::first_unfilled(log, n, slots);
+    let j6 = full::first_unfilled(log, n, slots, refused);
     if j6 < n {
         return verdict_of(19, j6);
     }

@@ -23,7 +23,7 @@ returns c =
     (c .verdict-of .ensures)
 
 first-unfilled-requires : tie.Need-first-unfilled-requires
-first-unfilled-requires c κs = let p = start c .pre in (p .0 .small, p .0 .fields, p .1)
+first-unfilled-requires c κs = let p = start c .pre in (p .0 .small, p .0 .fields, p .1, p .4)
 
 returns-2 : tie.Need-returns-2
 returns-2 c =

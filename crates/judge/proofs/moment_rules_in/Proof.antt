@@ -76,6 +76,7 @@ last-rules-requires c κs =
       s .pre .2,
       keyed e3,
       (kept3 e3, kept4 e4),
+      e3 .before .before .before .by-moment .ensures .2 (e3 .if1 .left),
     )
 
 pub moment-rules-in-spec : {M : Type 1} → statement M
