@@ -151,7 +151,7 @@ module _ (b : HeldBench) (m : ℕ) (h : Counted m (benchIn b)) where
   pub held-resets : (q : ℕ) → q < 8 → getD (b .resets) q 0 ≤ b .steps
   held-resets q l = omega (arith, h .resets q, ap (λ (x : Queue). x .resets) (queue-is b q l))
 
-  pub held-b2 : (p : ℕ) → p < 8 → getD (b .b2s) p 0 ≤ b .steps
+  pub held-b2 : (p : ℕ) → p < 8 → getD (b .standings) p idleHeld .b2 ≤ b .steps
   held-b2 p l = omega (arith, h .b2 p, ap (λ (x : Process). x .b2) (process-is b p l))
 
 -- an array with x at place i, and otherwise as it was
@@ -178,23 +178,20 @@ listOf-put {A} f g d n i x lt e o =
     split j l (no k) = listOf-getD n g d j l ∙ o j k ∙ sym (listOf-getD n f d j l) ∙ sym (getD-set-other (listOf n f) i j x d k)
 
 -- what a step of process p on queue q changes in the program's arrays
-pub record Changes (b b′ : HeldBench) (p q : ℕ) (w : PackedWord) (n : ℕ) (z : Standing) (c : Script) (b2 seen : ℕ) : Type 0 where
+pub record Changes (b b′ : HeldBench) (p q : ℕ) (w : PackedWord) (n : ℕ) (z : Standing) (c : Script) : Type 0 where
   pub words : Put freshHeld (b .words) (b′ .words) q w
   pub resets : Put 0 (b .resets) (b′ .resets) q n
   pub standings : Put idleHeld (b .standings) (b′ .standings) p z
   pub scripts : Put noScript (b .scripts) (b′ .scripts) p c
-  pub b2s : Put 0 (b .b2s) (b′ .b2s) p b2
-  pub resets-at-t1 : Put 0 (b .«resets_at_t1») (b′ .«resets_at_t1») p seen
 
 -- and in the bench that they stand for
-module _ (b b′ : HeldBench) (p q : ℕ) (w : PackedWord) (n : ℕ) (z : Standing) (c : Script) (b2 seen : ℕ) (h : Changes b b′ p q w n z c b2 seen) where
+module _ (b b′ : HeldBench) (p q : ℕ) (w : PackedWord) (n : ℕ) (z : Standing) (c : Script) (h : Changes b b′ p q w n z c) where
   pub queues-changed : q < 8 → benchIn b′ .queues ≡ set (benchIn b .queues) q (record { word = unpacked w; resets = n })
   queues-changed lt =
       listOf-put (queueIn b) (queueIn b′) fresh 8 q (record { word = unpacked w; resets = n }) lt (λ i. record { word = unpacked (h .words .here i); resets = h .resets .here i })
       (λ j ne i. record { word = unpacked (h .words .other j ne i); resets = h .resets .other j ne i })
 
-  pub processes-changed : p < 8 → benchIn b′ .processes ≡ set (benchIn b .processes) p (recordOf z c b2 seen)
+  pub processes-changed : p < 8 → benchIn b′ .processes ≡ set (benchIn b .processes) p (recordOf z c)
   processes-changed lt =
-      listOf-put (recordIn b) (recordIn b′) nobody 8 p (recordOf z c b2 seen) lt
-      (λ i. recordOf (h .standings .here i) (h .scripts .here i) (h .b2s .here i) (h .resets-at-t1 .here i))
-      (λ j ne i. recordOf (h .standings .other j ne i) (h .scripts .other j ne i) (h .b2s .other j ne i) (h .resets-at-t1 .other j ne i))
+      listOf-put (recordIn b) (recordIn b′) nobody 8 p (recordOf z c) lt (λ i. recordOf (h .standings .here i) (h .scripts .here i))
+      (λ j ne i. recordOf (h .standings .other j ne i) (h .scripts .other j ne i))

@@ -35,8 +35,8 @@ const TABLE_ROW: usize = 3 + MOST_SLOTS;
 
 pub const TABLE_SIZE: usize = 8 * TABLE_ROW;
 
-// A process: where it stands in its call, the call, which call of the file is its next and where its script stops; and of the
-// call its start, its step B2, and the resets that its queue had at T1.
+// A process: where it stands in its call, the call, which call of the file is its next and where its script stops; of the call its
+// start, its step B2, and the resets that its queue had at T1; and whether the step that it makes begins the call.
 pub struct Process {
     pub stage: Stage,
     pub call: Call,
@@ -45,11 +45,14 @@ pub struct Process {
     pub start: u16,
     pub b2: u16,
     pub resets_at_t1: u16,
+    pub begins: bool,
 }
 
-// Of a process what each of its steps changes, and what changes with its calls.
+// Of a process what its steps change, and what changes with its calls.
 pub struct Standing {
     pub stage: Stage,
+    pub b2: u16,
+    pub resets_at_t1: u16,
 }
 
 pub struct Script {
@@ -66,8 +69,6 @@ pub struct Bench {
     pub resets: [u16; 8],
     pub standings: [Standing; 8],
     pub scripts: [Script; 8],
-    pub b2s: [u16; 8],
-    pub resets_at_t1: [u16; 8],
     pub entries: u16,
     pub steps: u16,
     pub gone: u16,

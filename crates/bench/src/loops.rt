@@ -14,9 +14,8 @@ use crate::Standing;
 use crate::moment::queue_of;
 use crate::turn::if_so;
 use crate::turn::ready;
-use crate::turn::record;
 use crate::turn::script_of;
-use crate::turn::stage_after;
+use crate::turn::standing_after;
 use crate::turn::step_slots;
 use crate::turn::tell;
 use runfile::Shape;
@@ -37,59 +36,45 @@ pub(crate) fn walk(
     requires { ⌜ ToWalk shape (now schedule) state (now slots) ⌝ }
     ensures { λ r. ⌜ Becomes (shape .size) (state .entries) (now (log .entry)) (walked closing (shape .width) (shape .size) (firstCalls (now (file .entry)) (shape .processes) (shape .calls)) (now (schedule .entry)) (stateIn (shape .size) state (now (slots .entry)))) r (now (slots .exit)) (now (log .exit)) ⌝ }
 {
-    let mut after = state;
+    let mut run = state;
     let idle = if_so(closing, 0, 1);
     let mut i: usize = 0;
-    while (i < schedule.len()) & (after.entries < shape.calls) {
+    while (i < schedule.len()) & (run.entries < shape.calls) {
         let p = schedule[i];
         let at = p as usize;
-        let n = after.steps;
+        let n = run.steps;
         i = i + 1;
-        let standing = after.standings[at];
-        let script = after.scripts[at];
-        let waiting = record(standing, script, after.b2s[at], after.resets_at_t1[at]);
-        let of = ready(file, shape, closing, n, waiting);
-        let stage = of.stage;
-        if stage.is_idle() {
-            after.steps = n + idle;
+        let of = ready(file, shape, closing, n, run.standings[at], run.scripts[at]);
+        if of.is_idle() {
+            run.steps = n + idle;
             continue;
         }
-        after.steps = n + 1;
-        let call = of.call;
-        let q = queue_of(p, call);
+        run.steps = n + 1;
+        let q = queue_of(p, of);
         let on = q as usize;
-        let word = after.words[on];
-        let resets = after.resets[on];
-        let stepped = step_slots(shape.width, shape.size, word, slots, q, stage);
+        let word = run.words[on];
+        let resets = run.resets[on];
+        let stepped = step_slots(shape.width, shape.size, word, slots, q, of);
         let changed = stepped.word;
-        let next = stepped.next;
-        after.words[on] = changed;
-        let then = stage_after(next);
+        run.words[on] = changed;
+        let then = standing_after(n, of, resets, stepped);
         if !then.is_idle() {
-            after.standings[at] = Standing { stage: then };
-            let before = standing.stage;
-            if before.is_idle() {
-                after.scripts[at] = script_of(of);
-                if stage.at_t1() {
-                    after.resets_at_t1[at] = resets;
-                }
-            } else if stage.at_b2() {
-                after.b2s[at] = n;
+            run.standings[at] = then;
+            if of.begins {
+                run.scripts[at] = script_of(of);
             }
             continue;
         }
-        let owning = after.standings[on];
-        let owned = after.scripts[on];
-        let owner = record(owning, owned, after.b2s[on], after.resets_at_t1[on]);
-        let told = tell(log, p, n, after.entries, of, owner, word, resets, stepped);
-        after.standings[at] = Standing { stage: Stage::Idle };
-        after.scripts[at] = script_of(of);
-        after.resets[on] = told.resets;
-        after.entries = after.entries + told.more;
-        after.gone = after.gone + told.gone;
+        let owner = run.standings[on];
+        let told = tell(log, p, n, run.entries, of, owner, word, resets, stepped);
+        run.standings[at] = of.rests();
+        run.scripts[at] = script_of(of);
+        run.resets[on] = told.resets;
+        run.entries = run.entries + told.more;
+        run.gone = run.gone + told.gone;
     }
-    after.steps = after.steps + if_so(closing, 0, (schedule.len() - i) as u16);
-    after
+    run.steps = run.steps + if_so(closing, 0, (schedule.len() - i) as u16);
+    run
 }
 
 fn bit(stage: Stage) -> u8

@@ -1,19 +1,21 @@
 // The entry of a finished call, with its moment: document 01, "The log".
 ghost use mathlib.Core.Path.{_≡_};
 ghost use Prim.Native.Nat.{_≤_};
-ghost use Rattle.bench.specs.inner.Layout.{processIn, endedIn};
+ghost use Rattle.bench.specs.inner.Layout.{processIn, ownerIn, endedIn};
 ghost use Rattle.runs.specs.Moment.{queueOf, pushedNode, isTake, entry as entryOf, nilMoment, takeMoment, nodeEntry, nilEntry, ended as endedOf, goneRound};
 use crate::Ended;
 use crate::Process;
+use crate::Standing;
 use log::Entry;
 use log::What;
 use queue::Next;
 use runfile::Call;
 
-// The queue of a call of process p.
-pub(crate) fn queue_of(p: u8, call: Call) -> u8
-    ensures { λ r. ⌜ r ≡ queueOf p call ⌝ }
+// The queue of the call of process p, its record being of.
+pub(crate) fn queue_of(p: u8, of: Process) -> u8
+    ensures { λ r. ⌜ r ≡ queueOf p (of .call) ⌝ }
 {
+    let call = of.call;
     match call {
         Call::Push(_) => p,
         Call::Pop => p,
@@ -45,10 +47,9 @@ fn is_take(call: Call) -> bool
 fn entry(p: u8, n: u16, of: Process, what: What, node: u16, moment: u16) -> Entry
     ensures { λ r. ⌜ r ≡ entryOf p n (processIn of) what node moment ⌝ }
 {
-    let call = of.call;
     Entry {
         process: p,
-        queue: queue_of(p, call),
+        queue: queue_of(p, of),
         kind: log::kind_of(what),
         result: log::result_of(what),
         node,
@@ -72,9 +73,9 @@ fn nil_moment(n: u16, of: Process) -> u16
 }
 
 // A top pop with a node: 2 × T4, or 2 × B2 of the owner that was popping that node.
-fn take_moment(n: u16, owner: Process, t: u16) -> u16
+fn take_moment(n: u16, owner: Standing, t: u16) -> u16
     requires { ⌜ (n ≤ 8191) × (owner .b2 ≤ 8191) ⌝ }
-    ensures { λ r. ⌜ r ≡ takeMoment n (processIn owner) t ⌝ }
+    ensures { λ r. ⌜ r ≡ takeMoment n (ownerIn owner) t ⌝ }
 {
     let stage = owner.stage;
     if stage.pops_slot(t) {
@@ -85,9 +86,9 @@ fn take_moment(n: u16, owner: Process, t: u16) -> u16
 }
 
 // The entry of a pop with a node.
-fn node_entry(p: u8, n: u16, of: Process, owner: Process, t: u16, x: u16) -> Entry
+fn node_entry(p: u8, n: u16, of: Process, owner: Standing, t: u16, x: u16) -> Entry
     requires { ⌜ (n ≤ 8191) × (of .b2 ≤ 8191) × (owner .b2 ≤ 8191) ⌝ }
-    ensures { λ r. ⌜ r ≡ nodeEntry p n (processIn of) (processIn owner) t x ⌝ }
+    ensures { λ r. ⌜ r ≡ nodeEntry p n (processIn of) (ownerIn owner) t x ⌝ }
 {
     let call = of.call;
     if is_take(call) {
@@ -111,9 +112,9 @@ fn nil_entry(p: u8, n: u16, of: Process) -> Entry
 }
 
 // What step n of process p ends: of is its record, owner that of its queue's owner, and t the queue's top, all before the step.
-pub(crate) fn ended(p: u8, n: u16, of: Process, owner: Process, t: u16, next: Next) -> Ended
+pub(crate) fn ended(p: u8, n: u16, of: Process, owner: Standing, t: u16, next: Next) -> Ended
     requires { ⌜ (n ≤ 8191) × (of .b2 ≤ 8191) × (owner .b2 ≤ 8191) ⌝ }
-    ensures { λ r. ⌜ endedIn r ≡ endedOf p n (processIn of) (processIn owner) t next ⌝ }
+    ensures { λ r. ⌜ endedIn r ≡ endedOf p n (processIn of) (ownerIn owner) t next ⌝ }
 {
     let call = of.call;
     let node = pushed_node(call);

@@ -28,7 +28,7 @@ fn share(file: &[u8], processes: u8, p: u8) -> u16
 // Process p before its first call: its calls begin where those of the process before it stop.
 fn scripted(file: &[u8], processes: u8, p: u8, next: u16) -> Script
     requires { ⌜ (next ≡ sum (take p (firstLengths (now file) processes))) × (next ≤ 255 * p) × (p < 8) ⌝ }
-    ensures { λ r. ⌜ (recordOf idleHeld r 0 0 ≡ scriptedOf (firstLengths (now (file .entry)) processes) p) × (r .stop ≤ 255 * (p + 1)) ⌝ }
+    ensures { λ r. ⌜ (recordOf idleHeld r ≡ scriptedOf (firstLengths (now (file .entry)) processes) p) × (r .stop ≤ 255 * (p + 1)) ⌝ }
 {
     let stop = next + share(file, processes, p);
     Script {
@@ -45,7 +45,11 @@ pub(crate) fn start(file: &[u8], processes: u8) -> Bench
     let age = PackedAge { word: 0 };
     let word = PackedWord { bottom: 0, age };
     let stage = Stage::Idle;
-    let idle = Standing { stage };
+    let idle = Standing {
+        stage,
+        b2: 0,
+        resets_at_t1: 0,
+    };
     let a = scripted(file, processes, 0, 0);
     let b = scripted(file, processes, 1, a.stop);
     let c = scripted(file, processes, 2, b.stop);
@@ -59,8 +63,6 @@ pub(crate) fn start(file: &[u8], processes: u8) -> Bench
         resets: [0; 8],
         standings: [idle; 8],
         scripts: [a, b, c, d, e, f, g, h],
-        b2s: [0; 8],
-        resets_at_t1: [0; 8],
         entries: 0,
         steps: 0,
         gone: 0,

@@ -2,22 +2,26 @@
 -- its bytes.
 use Prim.Native.Nat.{ℕ, suc, _+_, _*_, _/_, _%_, _≤_, _<_}
 use mathlib.Core.Path.{_≡_}
-use mathlib.Core.Bool.{cond}
+use mathlib.Core.Bool.{Bool, false, cond, _&&_}
 use mathlib.Core.List.{List, [], _∷_}
+use lib.Dec.{ltb}
 use lib.ListN.{length, getD, take, drop, set}
 use Rattle.base.specs.Bytes.{putAt}
 use Rattle.base.specs.Lists.{listOf}
 use Rattle.log.specs.Decode.{logLength}
 use Rattle.log.specs.Encode.{entryBytes}
 use Rattle.log.specs.declared.Entry.{Entry}
-use Rattle.queue.specs.Step.{stored, inSixteen, steppedOn}
+use Rattle.queue.specs.Step.{stored, inSixteen, steppedOn, stageAfter}
 use Rattle.queue.specs.Packed.{unpacked, unpackedStep, topOf}
+use Rattle.queue.specs.declared.Next.{Next}
 use Rattle.queue.specs.declared.PackedStep.{PackedStep}
 use Rattle.queue.specs.declared.PackedWord.{PackedWord}
+use Rattle.word.specs.Stages.{isIdle, atT1, atB2}
 use Rattle.word.specs.inner.StepsLeft.{stepsLeft}
 use Rattle.word.specs.declared.Stage.{Stage}
 use Rattle.word.specs.declared.Stage.the-variants.{Idle}
 use Rattle.runfile.specs.File.{mostSize}
+use Rattle.runfile.specs.declared.Call.{Call}
 use Rattle.runfile.specs.declared.Call.the-variants.{Push}
 use Rattle.runfile.specs.declared.Shape.{Shape}
 use Rattle.runs.specs.State.{Queue, Process, Bench, State, queueCount, processAt}
@@ -26,7 +30,7 @@ use Rattle.runs.specs.inner.Counted.{Counted}
 use Rattle.runs.specs.inner.Sound.{Sizes, Fit, Sound}
 use Rattle.runs.specs.inner.Left.{total}
 use Rattle.runs.specs.Run.{tableRowLength, inTable}
-use Rattle.runs.specs.Turn.{entriesIn}
+use Rattle.runs.specs.Turn.{entriesIn, ready}
 use Rattle.bench.specs.declared.Bench.{Bench as HeldBench}
 use Rattle.bench.specs.declared.Ended.{Ended as HeldEnded}
 use Rattle.bench.specs.declared.Ended.the-variants as held
@@ -48,26 +52,37 @@ processIn r = record {
 }
 
 -- a process's record from its parts, and the part that changes with its calls
-abbrev pub recordOf : Standing → Script → ℕ → ℕ → Process
-recordOf z c b2 resets = record {
+abbrev pub recordOf : Standing → Script → Process
+recordOf z c = record {
   stage = z .stage;
   call = c .call;
   next = c .next;
   stop = c .stop;
   start = c .start;
-  b2 = b2;
-  resetsAtT1 = resets;
+  b2 = z .b2;
+  resetsAtT1 = z .«resets_at_t1»;
 }
 
 abbrev pub scriptOf : Process → Script
 scriptOf r = record { call = r .call; next = r .next; stop = r .stop; start = r .start }
+
+-- where a process with the record r stands after its step n, on a queue with so many resets; and once its call is over
+abbrev pub standingAfter : ℕ → ℕ → Process → Next → Standing
+standingAfter n resets r next = record {
+  stage = stageAfter next;
+  b2 = cond (atB2 (r .stage)) n (r .b2);
+  «resets_at_t1» = cond (atT1 (r .stage)) resets (r .resetsAtT1);
+}
+
+abbrev pub restsIn : Process → Standing
+restsIn r = record { stage = Idle; b2 = r .b2; «resets_at_t1» = r .resetsAtT1 }
 
 -- what the program's arrays have past their end
 abbrev pub freshHeld : PackedWord
 freshHeld = record { bottom = 0; age = record { word = 0 } }
 
 abbrev pub idleHeld : Standing
-idleHeld = record { stage = Idle }
+idleHeld = record { stage = Idle; b2 = 0; «resets_at_t1» = 0 }
 
 abbrev pub noScript : Script
 noScript = record { call = Push 0; next = 0; stop = 0; start = 0 }
@@ -77,11 +92,15 @@ abbrev pub queueIn : HeldBench → ℕ → Queue
 queueIn b q = record { word = unpacked (getD (b .words) q freshHeld); resets = getD (b .resets) q 0 }
 
 abbrev pub recordIn : HeldBench → ℕ → Process
-recordIn b p = recordOf (getD (b .standings) p idleHeld) (getD (b .scripts) p noScript) (getD (b .b2s) p 0) (getD (b .«resets_at_t1») p 0)
+recordIn b p = recordOf (getD (b .standings) p idleHeld) (getD (b .scripts) p noScript)
 
 -- where process p stands; the rest of its record does not matter here
 abbrev pub standingIn : List Standing → ℕ → Process
-standingIn l p = recordOf (getD l p idleHeld) noScript 0 0
+standingIn l p = recordOf (getD l p idleHeld) noScript
+
+-- the owner of a queue: of its record only the stage and B2 matter for a moment
+abbrev pub ownerIn : Standing → Process
+ownerIn z = recordOf z noScript
 
 abbrev pub endedIn : HeldEnded → Ended
 endedIn held.Nothing = Nothing
@@ -96,8 +115,6 @@ pub record Whole (b : HeldBench) : Type 0 where
   pub resets : length (b .resets) ≡ queueCount
   pub standings : length (b .standings) ≡ queueCount
   pub scripts : length (b .scripts) ≡ queueCount
-  pub b2s : length (b .b2s) ≡ queueCount
-  pub resets-at-t1 : length (b .«resets_at_t1») ≡ queueCount
 
 -- the row of all slots has room for eight queues of the greatest C
 abbrev pub allSlots : ℕ
@@ -117,6 +134,14 @@ wordsTable P words slots k = inTable P (unpacked (getD words (k / tableRowLength
 -- the state that a bench and its slots stand for, before anything is logged
 abbrev pub stateIn : ℕ → HeldBench → List ℕ → State
 stateIn C b flat = record { bench = benchIn b; slots = slotsIn C flat; log = [] }
+
+-- the record with which a process makes step n, from the one that waits: whether it begins a call, which none does in the closing
+abbrev pub begins : Bool → Process → Bool
+begins closing w = cond closing false (isIdle (w .stage) && ltb (w .next) (w .stop))
+
+pub record Begins (closing : Bool) (calls : List Call) (n : ℕ) (w : Process) (r : HeldProcess) : Type 0 where
+  pub is : processIn r ≡ cond closing w (ready calls n w)
+  pub so : r .begins ≡ begins closing w
 
 -- the step of queue q on its slots in the row
 pub record StepsIn (W C : ℕ) (w : PackedWord) (flat : List ℕ) (q : ℕ) (z : Stage) (answer : PackedStep) (flat′ : List ℕ) : Type 0 where

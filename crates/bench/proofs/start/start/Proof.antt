@@ -42,7 +42,7 @@ returns c = (
     gone = 0;
   },
   refl,
-  record { words = refl; resets = refl; standings = refl; scripts = refl; b2s = refl; resets-at-t1 = refl },
+  record { words = refl; resets = refl; standings = refl; scripts = refl },
 )
 
 pub start-spec : {M : Type 1} → statement M
