@@ -155,23 +155,17 @@ pub(crate) fn step_slots(
     queue::step_packed(width, size, word, &mut slots[from..to], stage)
 }
 
-fn count(over: Ended) -> u16
-    ensures { λ r. ⌜ r ≡ length (entriesIn (endedIn over)) ⌝ }
-{
-    match over {
-        Ended::Nothing => 0,
-        Ended::Call(_) => 1,
-    }
-}
-
-// Puts what a step ended after the n entries of the log.
-fn keep(log: &mut [u8], n: u16, over: Ended)
-    ensures { λ _. ⌜ now (log .exit) ≡ putEntries n (entriesIn (endedIn over)) (now (log .entry)) ⌝ }
+// Puts what a step ended after the n entries of the log, and gives how many entries that is.
+fn keep(log: &mut [u8], n: u16, over: Ended) -> u16
+    ensures { λ r. ⌜ (now (log .exit) ≡ putEntries n (entriesIn (endedIn over)) (now (log .entry))) × (r ≡ length (entriesIn (endedIn over))) ⌝ }
 {
     let at = log::HEAD_LENGTH + log::ENTRY_LENGTH * (n as usize);
     match over {
-        Ended::Nothing => {}
-        Ended::Call(entry) => log::put_entry(log, at, entry),
+        Ended::Nothing => 0,
+        Ended::Call(entry) => {
+            log::put_entry(log, at, entry);
+            1
+        }
     }
 }
 
@@ -201,10 +195,10 @@ pub(crate) fn tell(
     let age = word.age;
     let next = stepped.next;
     let over = moment::ended(p, n, of, owner, age.top(), next);
-    keep(log, entries, over);
+    let more = keep(log, entries, over);
     let again = resets + 1;
     Told {
-        more: count(over),
+        more,
         gone: moment::gone_round(of, resets, next),
         resets: if_so(stepped.reset, again, resets),
     }

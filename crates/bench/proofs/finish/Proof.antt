@@ -1,4 +1,5 @@
 -- `finish` meets its contract.
+use mathlib.Core.Path.{refl}
 use borrow.Author.Needs.{needs}
 use Rattle.bench.proofs.finish.Statement.{statement}
 use Rattle.bench.proofs.finish.Tie as tie
@@ -7,6 +8,14 @@ fill-requires : tie.Need-fill-requires
 fill-requires c κs =
     let s = c .before .before .before .before .before .before .before .before .before in
     (s .pre .all-slots, s .pre .size, s .pre .processes)
+
+returns : tie.Need-returns
+returns c = record {
+  bytes = refl;
+  kept = c .before .before .before .before .before .before .before .put-head .ensures;
+  counts = refl;
+  queues = c .before .fill .ensures;
+}
 
 pub finish-spec : {M : Type 1} → statement M
 finish-spec =
@@ -18,4 +27,4 @@ finish-spec =
     (λ c. search needs)
     (λ c. search needs)
     (λ c. search needs)
-    (λ c. search needs))
+    returns)

@@ -1,10 +1,11 @@
 -- `turn::keep` meets its contract.
+use mathlib.Core.Path.{refl}
 use borrow.Author.Needs.{needs}
 use Rattle.bench.proofs.turn.keep.Statement.{statement}
 use Rattle.bench.proofs.turn.keep.Tie as tie
 
 returns-2 : tie.Need-returns-2
-returns-2 c = rw (c .before .before .before .before .before .over .given .1) (c .before .before .put-entry .ensures)
+returns-2 c = rw (c .before .before .before .before .before .over .given .1) (c .before .before .put-entry .ensures, refl)
 
 pub keep-spec : {M : Type 1} → statement M
 keep-spec =

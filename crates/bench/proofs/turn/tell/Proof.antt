@@ -5,14 +5,17 @@ use Rattle.bench.proofs.turn.tell.Statement.{statement}
 use Rattle.bench.proofs.turn.tell.Tie as tie
 
 returns : tie.Need-returns
-returns c = record {
-  over = endedIn (c .before .before .before .before .before .before .before .ended .result);
-  ends = rw (← c .before .before .before .before .before .before .before .before .top .ensures) (c .before .before .before .before .before .before .before .ended .ensures);
-  bytes = c .before .before .before .before .before .keep .ensures;
-  more = c .before .before .count .ensures;
-  gone = c .before .gone-round .ensures;
-  again = c .if-so .ensures;
-}
+returns c =
+    let end = c .before .before .before .before .before .before in
+    let kept = c .before .before .before .before .keep .ensures in
+    record {
+      over = endedIn (end .ended .result);
+      ends = rw (← end .before .top .ensures) (end .ended .ensures);
+      bytes = kept .0;
+      more = kept .1;
+      gone = c .before .gone-round .ensures;
+      again = c .if-so .ensures;
+    }
 
 pub tell-spec : {M : Type 1} → statement M
 tell-spec =
@@ -22,7 +25,6 @@ tell-spec =
     (λ c κs. search needs)
     (λ c κs. search needs)
     (λ c. search needs)
-    (λ c κs. search needs)
     (λ c κs. search needs)
     (λ c κs. search needs)
     (λ c. search needs)
