@@ -26,7 +26,8 @@ use Rattle.runs.specs.Turn.{ready, queueAfter, processAfter, entriesIn, benchAf
 use Rattle.runs.specs.inner.Sound.{Sizes, Fit, processes, AllIn, Placed, Sound}
 use Rattle.runs.proofs.KindLaws.{idle-is}
 use Rattle.runs.proofs.Sound.{turning-placed}
-use Rattle.bench.specs.inner.Layout.{recordOf, scriptOf, standingAfter, restsIn, freshHeld, idleHeld, noScript, queueIn, recordIn, ownerIn, benchIn, slotsIn, stateIn, begins, Whole, StepsIn, putEntries, Becomes, Tells}
+use Rattle.bench.specs.inner.Layout.{recordOf, scriptOf, standingAfter, restsIn, freshHeld, idleHeld, noScript}
+use Rattle.bench.specs.inner.Layout.{queueIn, recordIn, ownerIn, benchIn, slotsIn, stateIn, begins, Whole, StepsIn, putEntries, Becomes, Tells}
 use Rattle.bench.specs.inner.Walk.{walking, walkedOne}
 use Rattle.bench.proofs.LayoutLaws.{queue-is, process-is, Put, put-set, put-none, Changes, queues-changed, processes-changed}
 use Rattle.bench.proofs.WalkLaws.{waited, with-steps}
@@ -195,7 +196,8 @@ module _ (f : Sizes) (h : Fit f) (closing : Bool) (calls : List Call) (all : All
           ∙ sixteen-in W C C (queueAt (benchIn b) q .word) (loaded (getD (slotsIn C flat) q []) (loadedSlot (r .stage))) (r .stage) in-range
 
       -- the step's changes, counts and entry are those of the definition
-      acts : (over : Ended) → over ≡ ended p (b .steps) r (recordIn b q) (unpacked (getD (b .words) q freshHeld) .top) (o .next) → (b′ : HeldBench) (log′ : List ℕ) → Whole b′
+      acts : (over : Ended) → over ≡ ended p (b .steps) r (recordIn b q) (unpacked (getD (b .words) q freshHeld) .top) (o .next)
+          → (b′ : HeldBench) (log′ : List ℕ) → Whole b′
           → Changes b b′ p q (o .word) (cond (o .reset) (getD (b .resets) q 0 + 1) (getD (b .resets) q 0))
           (standingAfter (b .steps) (getD (b .resets) q 0) r (o .next)) (scriptOf r)
           → b′ .steps ≡ b .steps + 1 → b′ .gone ≡ b .gone + goneRound r (getD (b .resets) q 0) (o .next) → b′ .entries ≡ b .entries + length (entriesIn over)
@@ -249,7 +251,9 @@ module _ (f : Sizes) (h : Fit f) (closing : Bool) (calls : List Call) (all : All
       module _ (whole : Whole b) (z : Standing) (t : z ≡ standingAfter (b .steps) (getD (b .resets) q 0) r (o .next)) where
         whole′ : (S : List Script) (R : List ℕ) (m n k : ℕ) → length S ≡ 8 → length R ≡ 8 → Whole (after R z S m n k)
         whole′ S R m n k lS lR =
-            record { words = length-set (b .words) q (o .word) ∙ whole .words; resets = lR; standings = length-set (b .standings) p z ∙ whole .standings; scripts = lS }
+            let word = length-set (b .words) q (o .word) in
+            let standing = length-set (b .standings) p z in
+            record { words = word ∙ whole .words; resets = lR; standings = standing ∙ whole .standings; scripts = lS }
 
         -- with the resets R of the queues and the scripts S
         changes : (R : List ℕ) (S : List Script) (m n k : ℕ) → Put 0 (b .resets) R q (cond (o .reset) (getD (b .resets) q 0 + 1) (getD (b .resets) q 0))
@@ -259,7 +263,8 @@ module _ (f : Sizes) (h : Fit f) (closing : Bool) (calls : List Call) (all : All
         changes R S m n k pR pS = record {
           words = put-set freshHeld (b .words) q (o .word) (omega (arith, whole .words, on-queue));
           resets = pR;
-          standings = subst (Put idleHeld (b .standings) (set (b .standings) p z) p) t (put-set idleHeld (b .standings) p z (omega (arith, whole .standings, below)));
+          standings = subst (Put idleHeld (b .standings) (set (b .standings) p z) p) t
+              (put-set idleHeld (b .standings) p z (omega (arith, whole .standings, below)));
           scripts = pS;
         }
 
@@ -291,17 +296,20 @@ module _ (f : Sizes) (h : Fit f) (closing : Bool) (calls : List Call) (all : All
             goes i (b .scripts) (whole .scripts) (put-none noScript (b .scripts) p _ (ap scriptOf (sym (d ∙ kept calls (b .steps) (recordIn b p) closing e))))
 
       -- it ends
-      pub way-ends : Whole b → isIdle (stageAfter (o .next)) ≡ true → (z : Standing) → z ≡ restsIn r → (c : Script) → c ≡ scriptOf r → (m : Told) (log′ : List ℕ)
+      pub way-ends : Whole b → isIdle (stageAfter (o .next)) ≡ true → (z : Standing) → z ≡ restsIn r → (c : Script) → c ≡ scriptOf r
+          → (m : Told) (log′ : List ℕ)
           → Tells p (b .steps) (b .entries) r (ownerIn (getD (b .standings) q idleHeld)) (getD (b .words) q freshHeld) (getD (b .resets) q 0) o log m log′
           → Becomes (f .size) (b .entries) log (walkedOne closing (f .width) (f .size) calls p (stateIn (f .size) b flat))
           (after (set (b .resets) q (m .resets)) z (set (b .scripts) p c) (b .entries + m .more) (b .steps + 1) (b .gone + m .gone)) flat′ log′
       way-ends whole i z rests c k m log′ g =
           let t : z ≡ standingAfter (b .steps) resets r (o .next) = rests ∙ rested in
-          acts (g .over) (g .ends ∙ by-owner p (b .steps) r (getD (b .standings) q idleHeld) (getD (b .scripts) q noScript) (unpacked (getD (b .words) q freshHeld) .top) (o .next)) _ log′
+          let top = unpacked (getD (b .words) q freshHeld) .top in
+          acts (g .over) (g .ends ∙ by-owner p (b .steps) r (getD (b .standings) q idleHeld) (getD (b .scripts) q noScript) top (o .next)) _ log′
           (whole′ whole z t (set (b .scripts) p c) (set (b .resets) q (m .resets)) (b .entries + m .more) (b .steps + 1) (b .gone + m .gone)
           (length-set (b .scripts) p c ∙ whole .scripts) (length-set (b .resets) q (m .resets) ∙ whole .resets))
           (changes whole z t (set (b .resets) q (m .resets)) (set (b .scripts) p c) (b .entries + m .more) (b .steps + 1) (b .gone + m .gone)
-          (subst (Put 0 (b .resets) (set (b .resets) q (m .resets)) q) (g .again) (put-set 0 (b .resets) q (m .resets) (omega (arith, whole .resets, on-queue))))
+          (subst (Put 0 (b .resets) (set (b .resets) q (m .resets)) q) (g .again)
+          (put-set 0 (b .resets) q (m .resets) (omega (arith, whole .resets, on-queue))))
           (script-set whole z t c k))
           refl (ap (λ (y : ℕ). b .gone + y) (g .gone)) (ap (λ (y : ℕ). b .entries + y) (g .more)) (g .bytes)
         where

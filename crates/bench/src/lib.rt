@@ -63,7 +63,7 @@ pub struct Script {
 }
 
 // The state of a run, but for the slots, which lie in an array of their own, and the log, which lies in the buffer. The records of queues and of
-// processes lie in parts, so that a step writes no more than it changes.
+// processes lie in parts, so that a step writes little more than it changes.
 pub struct Bench {
     pub words: [PackedWord; 8],
     pub resets: [u16; 8],
