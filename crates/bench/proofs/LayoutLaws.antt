@@ -21,12 +21,11 @@ use Rattle.queue.specs.declared.PackedStep.{PackedStep}
 use Rattle.queue.specs.declared.PackedWord.{PackedWord}
 use Rattle.queue.specs.declared.Store.{Store}
 use Rattle.queue.specs.declared.Store.the-variants as store
-use Rattle.bench.specs.inner.Layout.{recordOf, freshHeld, idleHeld, noScript, queueIn, recordIn, benchIn, slotsOf, slotsIn, StepsIn, putEntries}
+use Rattle.bench.specs.inner.Layout.{processIn, freshHeld, idleHeld, queueIn, recordIn, benchIn, slotsOf, slotsIn, StepsIn, putEntries}
 use Rattle.runs.specs.State.{Process, Queue, fresh, nobody, queueAt, processAt}
 use Rattle.runs.specs.inner.Counted.{Counted}
 use Rattle.bench.specs.declared.Bench.{Bench as HeldBench}
-use Rattle.bench.specs.declared.Script.{Script}
-use Rattle.bench.specs.declared.Standing.{Standing}
+use Rattle.bench.specs.declared.Process.{Process as HeldProcess}
 
 -- a list with a part put in its place
 module _ (xs ys : List ℕ) (a k : ℕ) (h : a + k ≤ length xs) (e : length ys ≡ k) where
@@ -151,7 +150,7 @@ module _ (b : HeldBench) (m : ℕ) (h : Counted m (benchIn b)) where
   pub held-resets : (q : ℕ) → q < 8 → getD (b .resets) q 0 ≤ b .steps
   held-resets q l = omega (arith, h .resets q, ap (λ (x : Queue). x .resets) (queue-is b q l))
 
-  pub held-b2 : (p : ℕ) → p < 8 → getD (b .standings) p idleHeld .b2 ≤ b .steps
+  pub held-b2 : (p : ℕ) → p < 8 → getD (b .processes) p idleHeld .b2 ≤ b .steps
   held-b2 p l = omega (arith, h .b2 p, ap (λ (x : Process). x .b2) (process-is b p l))
 
 -- an array with x at place i, and otherwise as it was
@@ -178,20 +177,19 @@ listOf-put {A} f g d n i x lt e o =
     split j l (no k) = listOf-getD n g d j l ∙ o j k ∙ sym (listOf-getD n f d j l) ∙ sym (getD-set-other (listOf n f) i j x d k)
 
 -- what a step of process p on queue q changes in the program's arrays
-pub record Changes (b b′ : HeldBench) (p q : ℕ) (w : PackedWord) (n : ℕ) (z : Standing) (c : Script) : Type 0 where
+pub record Changes (b b′ : HeldBench) (p q : ℕ) (w : PackedWord) (n : ℕ) (z : HeldProcess) : Type 0 where
   pub words : Put freshHeld (b .words) (b′ .words) q w
   pub resets : Put 0 (b .resets) (b′ .resets) q n
-  pub standings : Put idleHeld (b .standings) (b′ .standings) p z
-  pub scripts : Put noScript (b .scripts) (b′ .scripts) p c
+  pub processes : Put idleHeld (b .processes) (b′ .processes) p z
 
 -- and in the bench that they stand for
-module _ (b b′ : HeldBench) (p q : ℕ) (w : PackedWord) (n : ℕ) (z : Standing) (c : Script) (h : Changes b b′ p q w n z c) where
+module _ (b b′ : HeldBench) (p q : ℕ) (w : PackedWord) (n : ℕ) (z : HeldProcess) (h : Changes b b′ p q w n z) where
   pub queues-changed : q < 8 → benchIn b′ .queues ≡ set (benchIn b .queues) q (record { word = unpacked w; resets = n })
   queues-changed lt =
-      listOf-put (queueIn b) (queueIn b′) fresh 8 q (record { word = unpacked w; resets = n }) lt (λ i. record { word = unpacked (h .words .here i); resets = h .resets .here i })
+      listOf-put (queueIn b) (queueIn b′) fresh 8 q (record { word = unpacked w; resets = n }) lt
+      (λ i. record { word = unpacked (h .words .here i); resets = h .resets .here i })
       (λ j ne i. record { word = unpacked (h .words .other j ne i); resets = h .resets .other j ne i })
 
-  pub processes-changed : p < 8 → benchIn b′ .processes ≡ set (benchIn b .processes) p (recordOf z c)
+  pub processes-changed : p < 8 → benchIn b′ .processes ≡ set (benchIn b .processes) p (processIn z)
   processes-changed lt =
-      listOf-put (recordIn b) (recordIn b′) nobody 8 p (recordOf z c) lt (λ i. recordOf (h .standings .here i) (h .scripts .here i))
-      (λ j ne i. recordOf (h .standings .other j ne i) (h .scripts .other j ne i))
+      listOf-put (recordIn b) (recordIn b′) nobody 8 p (processIn z) lt (ap processIn (h .processes .here)) (λ j ne. ap processIn (h .processes .other j ne))

@@ -26,33 +26,13 @@ use Rattle.runs.specs.Turn.{ready, queueAfter, processAfter, entriesIn, benchAf
 use Rattle.runs.specs.inner.Sound.{Sizes, Fit, processes, AllIn, Placed, Sound}
 use Rattle.runs.proofs.KindLaws.{idle-is}
 use Rattle.runs.proofs.Sound.{turning-placed}
-use Rattle.bench.specs.inner.Layout.{recordOf, scriptOf, standingAfter, restsIn, freshHeld, idleHeld, noScript}
-use Rattle.bench.specs.inner.Layout.{queueIn, recordIn, ownerIn, benchIn, slotsIn, stateIn, begins, Whole, StepsIn, putEntries, Becomes, Tells}
+use Rattle.bench.specs.inner.Layout.{processIn, freshHeld, idleHeld, queueIn, recordIn, benchIn, slotsIn, stateIn, Whole, StepsIn, putEntries, Becomes, Tells}
 use Rattle.bench.specs.inner.Walk.{walking, walkedOne}
 use Rattle.bench.proofs.LayoutLaws.{queue-is, process-is, Put, put-set, put-none, Changes, queues-changed, processes-changed}
 use Rattle.bench.proofs.WalkLaws.{waited, with-steps}
 use Rattle.bench.specs.declared.Bench.{Bench as HeldBench}
-use Rattle.bench.specs.declared.Script.{Script}
-use Rattle.bench.specs.declared.Standing.{Standing}
+use Rattle.bench.specs.declared.Process.{Process as HeldProcess}
 use Rattle.bench.specs.declared.turn.Told.{Told}
-
--- a step at B2 or T1 goes on
-row-ends : (W C : ℕ) (w : Word) (v : ℕ) (z : Stage) → isIdle (stageAfter (rowOf W C w v z .next)) ≡ true → (atB2 z ≡ false) × (atT1 z ≡ false)
-row-ends W C w v Idle e = (refl, refl)
-row-ends W C w v (P1 node) e = (refl, refl)
-row-ends W C w v (P2 node b) e = (refl, refl)
-row-ends W C w v (P3 b) e = (refl, refl)
-row-ends W C w v T1 e = never e
-row-ends W C w v (T2 t g) e = (refl, refl)
-row-ends W C w v (T3 t g b) e = (refl, refl)
-row-ends W C w v (T4 t g b x) e = (refl, refl)
-row-ends W C w v B1 e = (refl, refl)
-row-ends W C w v (B2 b) e = never e
-row-ends W C w v (B3 b) e = (refl, refl)
-row-ends W C w v (B4 b x) e = (refl, refl)
-row-ends W C w v (B5 b x t g) e = (refl, refl)
-row-ends W C w v (B6 b x t g) e = (refl, refl)
-row-ends W C w v (B7 b x t g) e = (refl, refl)
 
 -- a reset ends its call
 abbrev Ends : Stepped → Type 0
@@ -84,15 +64,6 @@ going p n r owner t resets Nil e = ever e
 going p n r owner t resets Lost e = ever e
 going p n r owner t resets Full e = ever e
 
--- of a queue's owner its stage and B2 alone matter
-pub by-owner : (p n : ℕ) (r : Process) (z : Standing) (c : Script) (t : ℕ) (next : Next) → ended p n r (ownerIn z) t next ≡ ended p n r (recordOf z c) t next
-by-owner p n r z c t (Going s) = refl
-by-owner p n r z c t Done = refl
-by-owner p n r z c t (Node x) = refl
-by-owner p n r z c t Nil = refl
-by-owner p n r z c t Lost = refl
-by-owner p n r z c t Full = refl
-
 -- the record with which a process makes its step, from the one that waits
 module _ (calls : List Call) (n : ℕ) (w : Process) where
   pub same-b2 : (closing : Bool) → cond closing w (ready calls n w) .b2 ≡ w .b2
@@ -100,25 +71,19 @@ module _ (calls : List Call) (n : ℕ) (w : Process) where
   same-b2 false =
       either-way (λ (x : Process). x .b2 ≡ w .b2) (isIdle (w .stage) && ltb (w .next) (w .stop)) (λ _. refl) (λ _. refl)
 
-  kept : (closing : Bool) → begins closing w ≡ false → cond closing w (ready calls n w) ≡ w
-  kept true e = refl
-  kept false e = rw e
-
 -- a bench with its steps counted further
 abbrev pub withSteps : HeldBench → ℕ → HeldBench
 withSteps b n = record {
   words = b .words;
   resets = b .resets;
-  standings = b .standings;
-  scripts = b .scripts;
+  processes = b .processes;
   entries = b .entries;
   steps = n;
   gone = b .gone;
 }
 
 whole-steps : (b : HeldBench) (n : ℕ) → Whole b → Whole (withSteps b n)
-whole-steps b n h =
-    record { words = h .words; resets = h .resets; standings = h .standings; scripts = h .scripts }
+whole-steps b n h = record { words = h .words; resets = h .resets; processes = h .processes }
 
 pub becomes-waited : (C n : ℕ) (log₀ : List ℕ) (s : State) (closing : Bool) (k m : ℕ) → m ≡ cond closing 0 k → (b : HeldBench) (flat log : List ℕ)
     → Becomes C n log₀ s b flat log → Becomes C n log₀ (waited closing k s) (withSteps b (b .steps + m)) flat log
@@ -197,14 +162,14 @@ module _ (f : Sizes) (h : Fit f) (closing : Bool) (calls : List Call) (all : All
 
       -- the step's changes, counts and entry are those of the definition
       acts : (over : Ended) → over ≡ ended p (b .steps) r (recordIn b q) (unpacked (getD (b .words) q freshHeld) .top) (o .next)
+          → (z : HeldProcess) → processIn z ≡ processAfter (b .steps) (getD (b .resets) q 0) r (o .next)
           → (b′ : HeldBench) (log′ : List ℕ) → Whole b′
-          → Changes b b′ p q (o .word) (cond (o .reset) (getD (b .resets) q 0 + 1) (getD (b .resets) q 0))
-          (standingAfter (b .steps) (getD (b .resets) q 0) r (o .next)) (scriptOf r)
+          → Changes b b′ p q (o .word) (cond (o .reset) (getD (b .resets) q 0 + 1) (getD (b .resets) q 0)) z
           → b′ .steps ≡ b .steps + 1 → b′ .gone ≡ b .gone + goneRound r (getD (b .resets) q 0) (o .next) → b′ .entries ≡ b .entries + length (entriesIn over)
           → log′ ≡ putEntries (b .entries) (entriesIn over) log
           → Becomes (f .size) (b .entries) log (walkedOne closing (f .width) (f .size) calls p (stateIn (f .size) b flat)) b′ flat′ log′
       unfolding act
-      acts over ends b′ log′ whole g steps gone count bytes = subst (λ (y : State). Becomes C (b .entries) log y b′ flat′ log′) (sym (walks busy)) (record {
+      acts over ends z is b′ log′ whole g steps gone count bytes = subst (λ (y : State). Becomes C (b .entries) log y b′ flat′ log′) (sym (walks busy)) (record {
         whole = whole;
         bench = rw (← e, ← made) bench-after;
         count = rw (← e, ← made, ← over-is) count;
@@ -219,8 +184,8 @@ module _ (f : Sizes) (h : Fit f) (closing : Bool) (calls : List Call) (all : All
 
           bench-after : benchIn b′ ≡ benchAfter (benchIn b) p q r (unpackedStep o)
           bench-after = λ i. record {
-            queues = (queues-changed b b′ p q _ _ _ _ g on-queue ∙ ap (λ (y : Queue). set (benchIn b .queues) q (queueAfter y (unpackedStep o))) (sym queue)) i;
-            processes = (processes-changed b b′ p q _ _ _ _ g below
+            queues = (queues-changed b b′ p q _ _ _ g on-queue ∙ ap (λ (y : Queue). set (benchIn b .queues) q (queueAfter y (unpackedStep o))) (sym queue)) i;
+            processes = (processes-changed b b′ p q _ _ _ g below ∙ ap (set (benchIn b .processes) p) is
                 ∙ ap (λ (y : Queue). set (benchIn b .processes) p (processAfter (b .steps) (y .resets) r (o .next))) (sym queue)) i;
             steps = steps i;
             gone = (gone ∙ ap (λ (y : Queue). b .gone + goneRound r (y .resets) (o .next)) (sym queue)) i;
@@ -229,93 +194,58 @@ module _ (f : Sizes) (h : Fit f) (closing : Bool) (calls : List Call) (all : All
       row : o .next ≡ steppedOn (f .width) (f .size) (queueAt (benchIn b) q .word) (getD (slotsIn (f .size) flat) q []) (r .stage) .next
       row = ap (λ (y : Stepped). y .next) made
 
-      ends-row : isIdle (stageAfter (o .next)) ≡ true → (atB2 (r .stage) ≡ false) × (atT1 (r .stage) ≡ false)
-      ends-row i = row-ends W C _ _ (r .stage) (ap (λ (y : Next). isIdle (stageAfter y)) (sym row) ∙ i)
-
       no-reset : isIdle (stageAfter (o .next)) ≡ false → o .reset ≡ false
       no-reset i =
           ap (λ (y : Stepped). y .reset) made ∙ row-resets W C _ _ (r .stage) (ap (λ (y : Next). isIdle (stageAfter y)) (sym row) ∙ i)
 
       -- the bench after it, with what it has besides the changed word
-      abbrev after : List ℕ → Standing → List Script → ℕ → ℕ → ℕ → HeldBench
-      after R z S entries steps gone = record {
+      abbrev after : List ℕ → HeldProcess → ℕ → ℕ → ℕ → HeldBench
+      after R z entries steps gone = record {
         words = set (b .words) q (o .word);
         resets = R;
-        standings = set (b .standings) p z;
-        scripts = S;
+        processes = set (b .processes) p z;
         entries = entries;
         steps = steps;
         gone = gone;
       }
 
-      module _ (whole : Whole b) (z : Standing) (t : z ≡ standingAfter (b .steps) (getD (b .resets) q 0) r (o .next)) where
-        whole′ : (S : List Script) (R : List ℕ) (m n k : ℕ) → length S ≡ 8 → length R ≡ 8 → Whole (after R z S m n k)
-        whole′ S R m n k lS lR =
-            let word = length-set (b .words) q (o .word) in
-            let standing = length-set (b .standings) p z in
-            record { words = word ∙ whole .words; resets = lR; standings = standing ∙ whole .standings; scripts = lS }
-
-        -- with the resets R of the queues and the scripts S
-        changes : (R : List ℕ) (S : List Script) (m n k : ℕ) → Put 0 (b .resets) R q (cond (o .reset) (getD (b .resets) q 0 + 1) (getD (b .resets) q 0))
-            → Put noScript (b .scripts) S p (scriptOf r)
-            → Changes b (after R z S m n k) p q (o .word) (cond (o .reset) (getD (b .resets) q 0 + 1) (getD (b .resets) q 0))
-            (standingAfter (b .steps) (getD (b .resets) q 0) r (o .next)) (scriptOf r)
-        changes R S m n k pR pS = record {
-          words = put-set freshHeld (b .words) q (o .word) (omega (arith, whole .words, on-queue));
-          resets = pR;
-          standings = subst (Put idleHeld (b .standings) (set (b .standings) p z) p) t
-              (put-set idleHeld (b .standings) p z (omega (arith, whole .standings, below)));
-          scripts = pS;
+      module _ (whole : Whole b) (z : HeldProcess) (t : processIn z ≡ processAfter (b .steps) (getD (b .resets) q 0) r (o .next)) where
+        -- with the resets R of the queues
+        whole′ : (R : List ℕ) (m n k : ℕ) → length R ≡ 8 → Whole (after R z m n k)
+        whole′ R m n k l = record {
+          words = length-set (b .words) q (o .word) ∙ whole .words;
+          resets = l;
+          processes = length-set (b .processes) p z ∙ whole .processes;
         }
 
-        script-set : (c : Script) → c ≡ scriptOf r → Put noScript (b .scripts) (set (b .scripts) p c) p (scriptOf r)
-        script-set c k = subst (Put noScript (b .scripts) (set (b .scripts) p c) p) k (put-set noScript (b .scripts) p c (omega (arith, whole .scripts, below)))
+        changes : (R : List ℕ) (m n k : ℕ) → Put 0 (b .resets) R q (cond (o .reset) (getD (b .resets) q 0 + 1) (getD (b .resets) q 0))
+            → Changes b (after R z m n k) p q (o .word) (cond (o .reset) (getD (b .resets) q 0 + 1) (getD (b .resets) q 0)) z
+        changes R m n k pR = record {
+          words = put-set freshHeld (b .words) q (o .word) (omega (arith, whole .words, on-queue));
+          resets = pR;
+          processes = put-set idleHeld (b .processes) p z (omega (arith, whole .processes, below));
+        }
 
-        -- the call goes on, with the scripts S
-        goes : isIdle (z .stage) ≡ false → (S : List Script) → length S ≡ 8 → Put noScript (b .scripts) S p (scriptOf r)
+        -- the call goes on
+        pub way-on : isIdle (z .stage) ≡ false
             → Becomes (f .size) (b .entries) log (walkedOne closing (f .width) (f .size) calls p (stateIn (f .size) b flat))
-            (after (b .resets) z S (b .entries) (b .steps + 1) (b .gone)) flat′ log
-        goes i S l pS =
-            let j : isIdle (stageAfter (o .next)) ≡ false = ap (λ (y : Standing). isIdle (y .stage)) (sym t) ∙ i in
+            (after (b .resets) z (b .entries) (b .steps + 1) (b .gone)) flat′ log
+        way-on i =
+            let j : isIdle (stageAfter (o .next)) ≡ false = ap (λ (y : Process). isIdle (y .stage)) (sym t) ∙ i in
             let g = going p (b .steps) r (recordIn b q) (unpacked (getD (b .words) q freshHeld) .top) resets (o .next) j in
-            acts Nothing (sym (g .0)) _ log (whole′ S (b .resets) (b .entries) (b .steps + 1) (b .gone) l (whole .resets))
-            (changes (b .resets) S (b .entries) (b .steps + 1) (b .gone)
-            (put-none 0 (b .resets) q (cond (o .reset) (resets + 1) resets) (ap (λ (y : Bool). cond y (resets + 1) resets) (sym (no-reset j)))) pS)
-            refl (omega (arith, g .1)) (omega arith) refl
+            let same = put-none 0 (b .resets) q (cond (o .reset) (resets + 1) resets) (ap (λ (y : Bool). cond y (resets + 1) resets) (sym (no-reset j))) in
+            acts Nothing (sym (g .0)) z t _ log (whole′ (b .resets) (b .entries) (b .steps + 1) (b .gone) (whole .resets))
+            (changes (b .resets) (b .entries) (b .steps + 1) (b .gone) same) refl (omega (arith, g .1)) (omega arith) refl
 
-        -- it is begun, or was begun before
-        pub way-begins : isIdle (z .stage) ≡ false → (c : Script) → c ≡ scriptOf r
+        -- it ends
+        pub way-ends : (m : Told) (log′ : List ℕ)
+            → Tells p (b .steps) (b .entries) r (recordIn b q) (getD (b .words) q freshHeld) (getD (b .resets) q 0) o log m log′
             → Becomes (f .size) (b .entries) log (walkedOne closing (f .width) (f .size) calls p (stateIn (f .size) b flat))
-            (after (b .resets) z (set (b .scripts) p c) (b .entries) (b .steps + 1) (b .gone)) flat′ log
-        way-begins i c k = goes i (set (b .scripts) p c) (length-set (b .scripts) p c ∙ whole .scripts) (script-set c k)
-
-        pub way-on : isIdle (z .stage) ≡ false → begins closing (recordIn b p) ≡ false
-            → Becomes (f .size) (b .entries) log (walkedOne closing (f .width) (f .size) calls p (stateIn (f .size) b flat))
-            (after (b .resets) z (b .scripts) (b .entries) (b .steps + 1) (b .gone)) flat′ log
-        way-on i e =
-            goes i (b .scripts) (whole .scripts) (put-none noScript (b .scripts) p _ (ap scriptOf (sym (d ∙ kept calls (b .steps) (recordIn b p) closing e))))
-
-      -- it ends
-      pub way-ends : Whole b → isIdle (stageAfter (o .next)) ≡ true → (z : Standing) → z ≡ restsIn r → (c : Script) → c ≡ scriptOf r
-          → (m : Told) (log′ : List ℕ)
-          → Tells p (b .steps) (b .entries) r (ownerIn (getD (b .standings) q idleHeld)) (getD (b .words) q freshHeld) (getD (b .resets) q 0) o log m log′
-          → Becomes (f .size) (b .entries) log (walkedOne closing (f .width) (f .size) calls p (stateIn (f .size) b flat))
-          (after (set (b .resets) q (m .resets)) z (set (b .scripts) p c) (b .entries + m .more) (b .steps + 1) (b .gone + m .gone)) flat′ log′
-      way-ends whole i z rests c k m log′ g =
-          let t : z ≡ standingAfter (b .steps) resets r (o .next) = rests ∙ rested in
-          let top = unpacked (getD (b .words) q freshHeld) .top in
-          acts (g .over) (g .ends ∙ by-owner p (b .steps) r (getD (b .standings) q idleHeld) (getD (b .scripts) q noScript) top (o .next)) _ log′
-          (whole′ whole z t (set (b .scripts) p c) (set (b .resets) q (m .resets)) (b .entries + m .more) (b .steps + 1) (b .gone + m .gone)
-          (length-set (b .scripts) p c ∙ whole .scripts) (length-set (b .resets) q (m .resets) ∙ whole .resets))
-          (changes whole z t (set (b .resets) q (m .resets)) (set (b .scripts) p c) (b .entries + m .more) (b .steps + 1) (b .gone + m .gone)
-          (subst (Put 0 (b .resets) (set (b .resets) q (m .resets)) q) (g .again)
-          (put-set 0 (b .resets) q (m .resets) (omega (arith, whole .resets, on-queue))))
-          (script-set whole z t c k))
-          refl (ap (λ (y : ℕ). b .gone + y) (g .gone)) (ap (λ (y : ℕ). b .entries + y) (g .more)) (g .bytes)
-        where
-          rested : restsIn r ≡ standingAfter (b .steps) (getD (b .resets) q 0) r (o .next)
-          rested = λ j. record {
-            stage = sym (idle-is (stageAfter (o .next)) i) j;
-            b2 = sym (ap (λ (y : Bool). cond y (b .steps) (r .b2)) (ends-row i .0)) j;
-            «resets_at_t1» = sym (ap (λ (y : Bool). cond y resets (r .resetsAtT1)) (ends-row i .1)) j;
-          }
+            (after (set (b .resets) q (m .resets)) z (b .entries + m .more) (b .steps + 1) (b .gone + m .gone)) flat′ log′
+        way-ends m log′ g =
+            let R = set (b .resets) q (m .resets) in
+            let set-resets = put-set 0 (b .resets) q (m .resets) (omega (arith, whole .resets, on-queue)) in
+            acts (g .over) (g .ends) z t _ log′
+            (whole′ R (b .entries + m .more) (b .steps + 1) (b .gone + m .gone) (length-set (b .resets) q (m .resets) ∙ whole .resets))
+            (changes R (b .entries + m .more) (b .steps + 1) (b .gone + m .gone) (subst (Put 0 (b .resets) R q) (g .again) set-resets))
+            refl (ap (λ (y : ℕ). b .gone + y) (g .gone)) (ap (λ (y : ℕ). b .entries + y) (g .more)) (g .bytes)

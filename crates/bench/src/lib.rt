@@ -35,8 +35,8 @@ const TABLE_ROW: usize = 3 + MOST_SLOTS;
 
 pub const TABLE_SIZE: usize = 8 * TABLE_ROW;
 
-// A process: where it stands in its call, the call, which call of the file is its next and where its script stops; of the call its
-// start, its step B2, and the resets that its queue had at T1; and whether the step that it makes begins the call.
+// A process: where it stands in its call, the call, which call of the file is its next and where its script stops; and of the
+// call its start, its step B2, and the resets that its queue had at T1.
 pub struct Process {
     pub stage: Stage,
     pub call: Call,
@@ -45,30 +45,13 @@ pub struct Process {
     pub start: u16,
     pub b2: u16,
     pub resets_at_t1: u16,
-    pub begins: bool,
 }
 
-// Of a process what its steps change, and what changes with its calls.
-pub struct Standing {
-    pub stage: Stage,
-    pub b2: u16,
-    pub resets_at_t1: u16,
-}
-
-pub struct Script {
-    pub call: Call,
-    pub next: u16,
-    pub stop: u16,
-    pub start: u16,
-}
-
-// The state of a run, but for the slots, which lie in an array of their own, and the log, which lies in the buffer. The records of queues and of
-// processes lie in parts, so that a step writes little more than it changes.
+// The state of a run, but for the slots, which lie in an array of their own, and the log, which lies in the buffer.
 pub struct Bench {
     pub words: [PackedWord; 8],
     pub resets: [u16; 8],
-    pub standings: [Standing; 8],
-    pub scripts: [Script; 8],
+    pub processes: [Process; 8],
     pub entries: u16,
     pub steps: u16,
     pub gone: u16,

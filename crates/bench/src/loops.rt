@@ -6,16 +6,15 @@ ghost use Rattle.word.specs.Stages.{isIdle};
 ghost use Rattle.runs.specs.Run.{close as closeOf, closingSteps};
 ghost use Rattle.runs.specs.inner.Half.{bit as bitOf, halfDone};
 ghost use Rattle.runfile.specs.File.{firstCalls};
-ghost use Rattle.bench.specs.inner.Layout.{standingIn, stateIn, Becomes, ToWalk, ToClose};
+ghost use Rattle.bench.specs.inner.Layout.{processAtIn, stateIn, Becomes, ToWalk, ToClose};
 ghost use Rattle.bench.specs.inner.Walk.{walked};
 use crate::Bench;
 use crate::CLOSING_ROUNDS;
-use crate::Standing;
+use crate::Process;
 use crate::moment::queue_of;
 use crate::turn::if_so;
+use crate::turn::process_after;
 use crate::turn::ready;
-use crate::turn::script_of;
-use crate::turn::standing_after;
 use crate::turn::step_slots;
 use crate::turn::tell;
 use runfile::Shape;
@@ -44,7 +43,7 @@ pub(crate) fn walk(
         let at = p as usize;
         let n = run.steps;
         i = i + 1;
-        let of = ready(file, shape, closing, n, run.standings[at], run.scripts[at]);
+        let of = ready(file, shape, closing, n, run.processes[at]);
         if of.is_idle() {
             run.steps = n + idle;
             continue;
@@ -57,18 +56,14 @@ pub(crate) fn walk(
         let stepped = step_slots(shape.width, shape.size, word, slots, q, of);
         let changed = stepped.word;
         run.words[on] = changed;
-        let then = standing_after(n, of, resets, stepped);
+        let then = process_after(n, of, resets, stepped);
         if !then.is_idle() {
-            run.standings[at] = then;
-            if of.begins {
-                run.scripts[at] = script_of(of);
-            }
+            run.processes[at] = then;
             continue;
         }
-        let owner = run.standings[on];
+        let owner = run.processes[on];
         let told = tell(log, p, n, run.entries, of, owner, word, resets, stepped);
-        run.standings[at] = of.rests();
-        run.scripts[at] = script_of(of);
+        run.processes[at] = then;
         run.resets[on] = told.resets;
         run.entries = run.entries + told.more;
         run.gone = run.gone + told.gone;
@@ -84,15 +79,15 @@ fn bit(stage: Stage) -> u8
 }
 
 // The half-done processes, as a set of eight bits.
-fn half_done(standings: [Standing; 8]) -> u8
-    requires { ⌜ length standings ≡ 8 ⌝ }
-    ensures { λ r. ⌜ r ≡ halfDone (listOf 8 (standingIn standings)) ⌝ }
+fn half_done(processes: [Process; 8]) -> u8
+    requires { ⌜ length processes ≡ 8 ⌝ }
+    ensures { λ r. ⌜ r ≡ halfDone (listOf 8 (processAtIn processes)) ⌝ }
 {
     let mut set: u8 = 0;
     let mut i: usize = 8;
     while 0 < i {
         i = i - 1;
-        let of = standings[i];
+        let of = processes[i];
         let stage = of.stage;
         let half = bit(stage);
         set = 2 * set + half;
@@ -115,8 +110,8 @@ pub(crate) fn close(
     let mut after = state;
     let mut done: u8 = 0;
     while done < CLOSING_ROUNDS {
-        let standings = after.standings;
-        let set = half_done(standings);
+        let processes = after.processes;
+        let set = half_done(processes);
         if set == 0 {
             return after;
         }

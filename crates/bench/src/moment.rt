@@ -1,11 +1,10 @@
 // The entry of a finished call, with its moment: document 01, "The log".
 ghost use mathlib.Core.Path.{_≡_};
 ghost use Prim.Native.Nat.{_≤_};
-ghost use Rattle.bench.specs.inner.Layout.{processIn, ownerIn, endedIn};
+ghost use Rattle.bench.specs.inner.Layout.{processIn, endedIn};
 ghost use Rattle.runs.specs.Moment.{queueOf, pushedNode, isTake, entry as entryOf, nilMoment, takeMoment, nodeEntry, nilEntry, ended as endedOf, goneRound};
 use crate::Ended;
 use crate::Process;
-use crate::Standing;
 use log::Entry;
 use log::What;
 use queue::Next;
@@ -73,9 +72,9 @@ fn nil_moment(n: u16, of: Process) -> u16
 }
 
 // A top pop with a node: 2 × T4, or 2 × B2 of the owner that was popping that node.
-fn take_moment(n: u16, owner: Standing, t: u16) -> u16
+fn take_moment(n: u16, owner: Process, t: u16) -> u16
     requires { ⌜ (n ≤ 8191) × (owner .b2 ≤ 8191) ⌝ }
-    ensures { λ r. ⌜ r ≡ takeMoment n (ownerIn owner) t ⌝ }
+    ensures { λ r. ⌜ r ≡ takeMoment n (processIn owner) t ⌝ }
 {
     let stage = owner.stage;
     if stage.pops_slot(t) {
@@ -86,9 +85,9 @@ fn take_moment(n: u16, owner: Standing, t: u16) -> u16
 }
 
 // The entry of a pop with a node.
-fn node_entry(p: u8, n: u16, of: Process, owner: Standing, t: u16, x: u16) -> Entry
+fn node_entry(p: u8, n: u16, of: Process, owner: Process, t: u16, x: u16) -> Entry
     requires { ⌜ (n ≤ 8191) × (of .b2 ≤ 8191) × (owner .b2 ≤ 8191) ⌝ }
-    ensures { λ r. ⌜ r ≡ nodeEntry p n (processIn of) (ownerIn owner) t x ⌝ }
+    ensures { λ r. ⌜ r ≡ nodeEntry p n (processIn of) (processIn owner) t x ⌝ }
 {
     let call = of.call;
     if is_take(call) {
@@ -112,9 +111,9 @@ fn nil_entry(p: u8, n: u16, of: Process) -> Entry
 }
 
 // What step n of process p ends: of is its record, owner that of its queue's owner, and t the queue's top, all before the step.
-pub(crate) fn ended(p: u8, n: u16, of: Process, owner: Standing, t: u16, next: Next) -> Ended
+pub(crate) fn ended(p: u8, n: u16, of: Process, owner: Process, t: u16, next: Next) -> Ended
     requires { ⌜ (n ≤ 8191) × (of .b2 ≤ 8191) × (owner .b2 ≤ 8191) ⌝ }
-    ensures { λ r. ⌜ endedIn r ≡ endedOf p n (processIn of) (ownerIn owner) t next ⌝ }
+    ensures { λ r. ⌜ endedIn r ≡ endedOf p n (processIn of) (processIn owner) t next ⌝ }
 {
     let call = of.call;
     let node = pushed_node(call);

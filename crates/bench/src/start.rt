@@ -4,11 +4,10 @@ ghost use Prim.Native.Nat.{_+_, _*_, _≤_, _<_};
 ghost use lib.ListN.{getD, take};
 ghost use Rattle.runfile.specs.Check.{sum};
 ghost use Rattle.runfile.specs.File.{firstLengths};
-ghost use Rattle.bench.specs.inner.Layout.{recordOf, idleHeld, benchIn, Whole};
+ghost use Rattle.bench.specs.inner.Layout.{processIn, benchIn, Whole};
 ghost use Rattle.runs.specs.State.{scripted as scriptedOf, startBench};
 use crate::Bench;
-use crate::Script;
-use crate::Standing;
+use crate::Process;
 use queue::PackedAge;
 use queue::PackedWord;
 use runfile::Call;
@@ -26,16 +25,19 @@ fn share(file: &[u8], processes: u8, p: u8) -> u16
 }
 
 // Process p before its first call: its calls begin where those of the process before it stop.
-fn scripted(file: &[u8], processes: u8, p: u8, next: u16) -> Script
+fn scripted(file: &[u8], processes: u8, p: u8, next: u16) -> Process
     requires { ⌜ (next ≡ sum (take p (firstLengths (now file) processes))) × (next ≤ 255 * p) × (p < 8) ⌝ }
-    ensures { λ r. ⌜ (recordOf idleHeld r ≡ scriptedOf (firstLengths (now (file .entry)) processes) p) × (r .stop ≤ 255 * (p + 1)) ⌝ }
+    ensures { λ r. ⌜ (processIn r ≡ scriptedOf (firstLengths (now (file .entry)) processes) p) × (r .stop ≤ 255 * (p + 1)) ⌝ }
 {
     let stop = next + share(file, processes, p);
-    Script {
+    Process {
+        stage: Stage::Idle,
         call: Call::Push(0),
         next,
         stop,
         start: 0,
+        b2: 0,
+        resets_at_t1: 0,
     }
 }
 
@@ -44,12 +46,6 @@ pub(crate) fn start(file: &[u8], processes: u8) -> Bench
 {
     let age = PackedAge { word: 0 };
     let word = PackedWord { bottom: 0, age };
-    let stage = Stage::Idle;
-    let idle = Standing {
-        stage,
-        b2: 0,
-        resets_at_t1: 0,
-    };
     let a = scripted(file, processes, 0, 0);
     let b = scripted(file, processes, 1, a.stop);
     let c = scripted(file, processes, 2, b.stop);
@@ -61,8 +57,7 @@ pub(crate) fn start(file: &[u8], processes: u8) -> Bench
     Bench {
         words: [word; 8],
         resets: [0; 8],
-        standings: [idle; 8],
-        scripts: [a, b, c, d, e, f, g, h],
+        processes: [a, b, c, d, e, f, g, h],
         entries: 0,
         steps: 0,
         gone: 0,

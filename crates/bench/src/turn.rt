@@ -1,18 +1,15 @@
 // One step of a run, through the step of the queue.
 ghost use mathlib.Core.Path.{_≡_};
-ghost use mathlib.Core.Bool.{true, false, cond};
+ghost use mathlib.Core.Bool.{cond};
 ghost use Prim.Native.Nat.{_≤_, _<_};
 ghost use lib.ListN.{length, getD};
 ghost use Rattle.word.specs.Stages.{isIdle};
 ghost use Rattle.queue.specs.Step.{stageAfter};
-ghost use Rattle.bench.specs.inner.Layout.{allSlots, processIn, recordOf, ownerIn, scriptOf, standingAfter, restsIn, endedIn, putEntries};
-ghost use Rattle.bench.specs.inner.Layout.{StepsIn, Begins, Tells};
+ghost use Rattle.bench.specs.inner.Layout.{allSlots, processIn, endedIn, putEntries, StepsIn, Tells};
 ghost use Rattle.runfile.specs.File.{firstCalls};
-ghost use Rattle.runs.specs.Turn.{firstStage, begun as begunOf, entriesIn};
+ghost use Rattle.runs.specs.Turn.{firstStage, begun as begunOf, entriesIn, ready as readyOf, processAfter};
 use crate::Ended;
 use crate::Process;
-use crate::Script;
-use crate::Standing;
 use crate::moment;
 use queue::Next;
 use queue::PackedStep;
@@ -20,36 +17,6 @@ use queue::PackedWord;
 use runfile::Call;
 use runfile::Shape;
 use word::Stage;
-
-// The record of a process from its parts, and the part that changes with its calls.
-fn record(standing: Standing, script: Script) -> Process
-    ensures { λ r. ⌜ (processIn r ≡ recordOf standing script) × (r .begins ≡ false) ⌝ }
-{
-    let stage = standing.stage;
-    let call = script.call;
-    Process {
-        stage,
-        call,
-        next: script.next,
-        stop: script.stop,
-        start: script.start,
-        b2: standing.b2,
-        resets_at_t1: standing.resets_at_t1,
-        begins: false,
-    }
-}
-
-pub(crate) fn script_of(of: Process) -> Script
-    ensures { λ r. ⌜ r ≡ scriptOf (processIn of) ⌝ }
-{
-    let call = of.call;
-    Script {
-        call,
-        next: of.next,
-        stop: of.stop,
-        start: of.start,
-    }
-}
 
 fn first_stage(call: Call) -> Stage
     ensures { λ r. ⌜ r ≡ firstStage call ⌝ }
@@ -64,14 +31,13 @@ fn first_stage(call: Call) -> Stage
 // A call starts at its first step.
 fn begun(n: u16, call: Call, of: Process) -> Process
     requires { ⌜ of .next < 65535 ⌝ }
-    ensures { λ r. ⌜ (processIn r ≡ begunOf n call (processIn of)) × (r .begins ≡ true) ⌝ }
+    ensures { λ r. ⌜ processIn r ≡ begunOf n call (processIn of) ⌝ }
 {
     Process {
         stage: first_stage(call),
         call,
         next: of.next + 1,
         start: n,
-        begins: true,
         ..of
     }
 }
@@ -89,25 +55,17 @@ fn stage_after(next: Next) -> Stage
     }
 }
 
-// Where a process stands after its step n, on a queue that had so many resets.
-pub(crate) fn standing_after(n: u16, of: Process, resets: u16, stepped: PackedStep) -> Standing
-    ensures { λ r. ⌜ r ≡ standingAfter n resets (processIn of) (stepped .next) ⌝ }
+// A process after its step n, on a queue that had so many resets.
+pub(crate) fn process_after(n: u16, of: Process, resets: u16, stepped: PackedStep) -> Process
+    ensures { λ r. ⌜ processIn r ≡ processAfter n resets (processIn of) (stepped .next) ⌝ }
 {
     let stage = of.stage;
     let next = stepped.next;
-    Standing {
+    Process {
         stage: stage_after(next),
         b2: if_so(stage.at_b2(), n, of.b2),
         resets_at_t1: if_so(stage.at_t1(), resets, of.resets_at_t1),
-    }
-}
-
-impl Standing {
-    pub(crate) fn is_idle(self) -> bool
-        ensures { λ r. ⌜ r ≡ isIdle (self .stage) ⌝ }
-    {
-        let stage = self.stage;
-        stage.is_idle()
+        ..of
     }
 }
 
@@ -117,17 +75,6 @@ impl Process {
     {
         let stage = self.stage;
         stage.is_idle()
-    }
-
-    // Where it stands once its call is over.
-    pub(crate) fn rests(self) -> Standing
-        ensures { λ r. ⌜ r ≡ restsIn (processIn self) ⌝ }
-    {
-        Standing {
-            stage: Stage::Idle,
-            b2: self.b2,
-            resets_at_t1: self.resets_at_t1,
-        }
     }
 }
 
@@ -177,21 +124,21 @@ pub(crate) struct Told {
     pub resets: u16,
 }
 
-// Logs what step n of process p ended, after so many entries: of is the record of the process, owner where its queue's owner stands, word and
-// resets the queue's, all before the step.
+// Logs what step n of process p ended, after so many entries: of and owner are the records of the process and of its queue's
+// owner, word and resets the queue's, all before the step.
 pub(crate) fn tell(
     log: &mut [u8],
     p: u8,
     n: u16,
     entries: u16,
     of: Process,
-    owner: Standing,
+    owner: Process,
     word: PackedWord,
     resets: u16,
     stepped: PackedStep,
 ) -> Told
     requires { ⌜ (n ≤ 8191) × (of .b2 ≤ 8191) × (owner .b2 ≤ 8191) × (resets ≤ 8191) ⌝ }
-    ensures { λ r. ⌜ Tells p n entries (processIn of) (ownerIn owner) word resets stepped (now (log .entry)) r (now (log .exit)) ⌝ }
+    ensures { λ r. ⌜ Tells p n entries (processIn of) (processIn owner) word resets stepped (now (log .entry)) r (now (log .exit)) ⌝ }
 {
     let age = word.age;
     let next = stepped.next;
@@ -217,19 +164,11 @@ fn call_in(file: &[u8], shape: Shape, k: u16) -> Call
 }
 
 // An idle process with a call left begins it; none is begun in the closing.
-pub(crate) fn ready(
-    file: &[u8],
-    shape: Shape,
-    closing: bool,
-    n: u16,
-    standing: Standing,
-    script: Script,
-) -> Process
-    ensures { λ r. ⌜ Begins closing (firstCalls (now (file .entry)) (shape .processes) (shape .calls)) n (recordOf standing script) r ⌝ }
+pub(crate) fn ready(file: &[u8], shape: Shape, closing: bool, n: u16, of: Process) -> Process
+    ensures { λ r. ⌜ processIn r ≡ cond closing (processIn of) (readyOf (firstCalls (now (file .entry)) (shape .processes) (shape .calls)) n (processIn of)) ⌝ }
 {
-    let of = record(standing, script);
-    let k = script.next;
-    if standing.is_idle() & (k < script.stop) & !closing {
+    let k = of.next;
+    if of.is_idle() & (k < of.stop) & !closing {
         begun(n, call_in(file, shape, k), of)
     } else {
         of

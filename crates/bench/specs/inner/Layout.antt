@@ -35,8 +35,6 @@ use Rattle.bench.specs.declared.Bench.{Bench as HeldBench}
 use Rattle.bench.specs.declared.Ended.{Ended as HeldEnded}
 use Rattle.bench.specs.declared.Ended.the-variants as held
 use Rattle.bench.specs.declared.Process.{Process as HeldProcess}
-use Rattle.bench.specs.declared.Script.{Script}
-use Rattle.bench.specs.declared.Standing.{Standing}
 use Rattle.bench.specs.declared.turn.Told.{Told}
 
 -- what the program's structs stand for
@@ -51,56 +49,22 @@ processIn r = record {
   resetsAtT1 = r .«resets_at_t1»;
 }
 
--- a process's record from its parts, and the part that changes with its calls
-abbrev pub recordOf : Standing → Script → Process
-recordOf z c = record {
-  stage = z .stage;
-  call = c .call;
-  next = c .next;
-  stop = c .stop;
-  start = c .start;
-  b2 = z .b2;
-  resetsAtT1 = z .«resets_at_t1»;
-}
-
-abbrev pub scriptOf : Process → Script
-scriptOf r = record { call = r .call; next = r .next; stop = r .stop; start = r .start }
-
--- where a process with the record r stands after its step n, on a queue with so many resets; and once its call is over
-abbrev pub standingAfter : ℕ → ℕ → Process → Next → Standing
-standingAfter n resets r next = record {
-  stage = stageAfter next;
-  b2 = cond (atB2 (r .stage)) n (r .b2);
-  «resets_at_t1» = cond (atT1 (r .stage)) resets (r .resetsAtT1);
-}
-
-abbrev pub restsIn : Process → Standing
-restsIn r = record { stage = Idle; b2 = r .b2; «resets_at_t1» = r .resetsAtT1 }
-
 -- what the program's arrays have past their end
 abbrev pub freshHeld : PackedWord
 freshHeld = record { bottom = 0; age = record { word = 0 } }
 
-abbrev pub idleHeld : Standing
-idleHeld = record { stage = Idle; b2 = 0; «resets_at_t1» = 0 }
-
-abbrev pub noScript : Script
-noScript = record { call = Push 0; next = 0; stop = 0; start = 0 }
+abbrev pub idleHeld : HeldProcess
+idleHeld = record { stage = Idle; call = Push 0; next = 0; stop = 0; start = 0; b2 = 0; «resets_at_t1» = 0 }
 
 -- queue q and process p of the program's arrays
 abbrev pub queueIn : HeldBench → ℕ → Queue
 queueIn b q = record { word = unpacked (getD (b .words) q freshHeld); resets = getD (b .resets) q 0 }
 
+abbrev pub processAtIn : List HeldProcess → ℕ → Process
+processAtIn l p = processIn (getD l p idleHeld)
+
 abbrev pub recordIn : HeldBench → ℕ → Process
-recordIn b p = recordOf (getD (b .standings) p idleHeld) (getD (b .scripts) p noScript)
-
--- where process p stands; the rest of its record does not matter here
-abbrev pub standingIn : List Standing → ℕ → Process
-standingIn l p = recordOf (getD l p idleHeld) noScript
-
--- the owner of a queue: of its record only the stage and B2 matter for a moment
-abbrev pub ownerIn : Standing → Process
-ownerIn z = recordOf z noScript
+recordIn b p = processAtIn (b .processes) p
 
 abbrev pub endedIn : HeldEnded → Ended
 endedIn held.Nothing = Nothing
@@ -113,8 +77,7 @@ benchIn b = record { queues = listOf queueCount (queueIn b); processes = listOf 
 pub record Whole (b : HeldBench) : Type 0 where
   pub words : length (b .words) ≡ queueCount
   pub resets : length (b .resets) ≡ queueCount
-  pub standings : length (b .standings) ≡ queueCount
-  pub scripts : length (b .scripts) ≡ queueCount
+  pub processes : length (b .processes) ≡ queueCount
 
 -- the row of all slots has room for eight queues of the greatest C
 abbrev pub allSlots : ℕ
@@ -134,14 +97,6 @@ wordsTable P words slots k = inTable P (unpacked (getD words (k / tableRowLength
 -- the state that a bench and its slots stand for, before anything is logged
 abbrev pub stateIn : ℕ → HeldBench → List ℕ → State
 stateIn C b flat = record { bench = benchIn b; slots = slotsIn C flat; log = [] }
-
--- the record with which a process makes step n, from the one that waits: whether it begins a call, which none does in the closing
-abbrev pub begins : Bool → Process → Bool
-begins closing w = cond closing false (isIdle (w .stage) && ltb (w .next) (w .stop))
-
-pub record Begins (closing : Bool) (calls : List Call) (n : ℕ) (w : Process) (r : HeldProcess) : Type 0 where
-  pub is : processIn r ≡ cond closing w (ready calls n w)
-  pub so : r .begins ≡ begins closing w
 
 -- the step of queue q on its slots in the row
 pub record StepsIn (W C : ℕ) (w : PackedWord) (flat : List ℕ) (q : ℕ) (z : Stage) (answer : PackedStep) (flat′ : List ℕ) : Type 0 where

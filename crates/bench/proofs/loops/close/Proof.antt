@@ -26,7 +26,7 @@ loop-holds c =
     (omega arith, s .pre .all-slots, closing-start (sizesIn (s .args .shape)) (s .args .shape .calls) _ _ _ (s .pre .whole) (s .pre .counted) (s .pre .sound) (s .pre .left) (s .pre .six) (s .pre .few))
 
 half-done-requires : tie.Need-half-done-requires Inv-loop μ-loop
-half-done-requires c κs = c .before .before .loop .inv .2 .along .becomes .whole .standings
+half-done-requires c κs = c .before .before .loop .inv .2 .along .becomes .whole .processes
 
 same-length : tie.Need-same-length Inv-loop μ-loop
 same-length c = c .before .before .before .before .loop .inv .1 ∙ sym (c .before .before .before .before .before .before .before .before .pre .all-slots)

@@ -8,28 +8,28 @@ use lib.ListN.{length, getD, drop}
 use Rattle.base.specs.Lists.{listOf}
 use Rattle.base.proofs.Lists.{listOf-length, listOf-getD}
 use Rattle.runs.specs.State.{Process, nobody}
-use Rattle.bench.specs.declared.Standing.{Standing}
-use Rattle.bench.specs.inner.Layout.{idleHeld, standingIn}
+use Rattle.bench.specs.declared.Process.{Process as HeldProcess}
+use Rattle.bench.specs.inner.Layout.{idleHeld, processAtIn}
 use Rattle.word.specs.Stages.{isIdle}
 use Rattle.runs.specs.inner.Half.{bit, halfDone}
 use Rattle.runs.proofs.HalfLaws.{bit-most, half-fits, half-start, half-loop, half-all}
 use Rattle.bench.proofs.loops.half_done.Statement.{statement}
 use Rattle.bench.proofs.loops.half_done.Tie as tie
 
-abbrev all : List Standing → List Process
-all l = listOf 8 (standingIn l)
+abbrev all : List HeldProcess → List Process
+all l = listOf 8 (processAtIn l)
 
-eight : (l : List Standing) → length (all l) ≡ 8
-eight l = listOf-length 8 (standingIn l)
+eight : (l : List HeldProcess) → length (all l) ≡ 8
+eight l = listOf-length 8 (processAtIn l)
 
-half-of : (l : List Standing) (i half : ℕ) → i < 8 → half ≡ bit (isIdle (getD l i idleHeld .stage)) → half ≡ bit (isIdle (getD (all l) i nobody .stage))
-half-of l i half lt e = e ∙ ap (λ (x : Process). bit (isIdle (x .stage))) (sym (listOf-getD 8 (standingIn l) nobody i lt))
+half-of : (l : List HeldProcess) (i half : ℕ) → i < 8 → half ≡ bit (isIdle (getD l i idleHeld .stage)) → half ≡ bit (isIdle (getD (all l) i nobody .stage))
+half-of l i half lt e = e ∙ ap (λ (x : Process). bit (isIdle (x .stage))) (sym (listOf-getD 8 (processAtIn l) nobody i lt))
 
 abbrev Inv-loop : tie.InvT-loop
-Inv-loop standings set₀ i₀ set i = (i ≤ 8) × (set ≡ halfDone (drop i (listOf 8 (standingIn standings))))
+Inv-loop processes set₀ i₀ set i = (i ≤ 8) × (set ≡ halfDone (drop i (listOf 8 (processAtIn processes))))
 
 abbrev μ-loop : tie.MeasureT-loop
-μ-loop standings set₀ i₀ set i = i
+μ-loop processes set₀ i₀ set i = i
 
 loop-holds : tie.Need-loop-holds Inv-loop μ-loop
 loop-holds c = (omega arith, half-start (all (c .args .t1)) (eight (c .args .t1)))

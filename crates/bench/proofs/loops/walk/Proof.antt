@@ -16,9 +16,8 @@ use Rattle.runfile.specs.declared.Shape.{Shape}
 use Rattle.bench.specs.inner.Layout.{processIn, recordIn, stateIn, sizesIn, Becomes}
 use Rattle.bench.specs.inner.Walk.{walkedOne}
 use Rattle.bench.specs.declared.Bench.{Bench}
-use Rattle.bench.specs.declared.Standing.{Standing}
 use Rattle.bench.proofs.LayoutLaws.{held-resets, held-b2}
-use Rattle.bench.proofs.WayLaws.{same-b2, way-idle, on-queue, way-begins, way-on, way-ends}
+use Rattle.bench.proofs.WayLaws.{same-b2, way-idle, on-queue, way-on, way-ends}
 use Rattle.bench.proofs.RunLaws.{Walked, walked-start, walked-more, walked-all, goes-on, along-length}
 use Rattle.bench.proofs.loops.walk.Statement.{statement}
 use Rattle.bench.proofs.loops.walk.Tie as tie
@@ -50,7 +49,7 @@ Inv-loop file shape schedule closing slots₀ log₀ run₀ idle i₀ slots log 
 abbrev μ-loop : tie.MeasureT-loop
 μ-loop file shape schedule closing slots₀ log₀ run₀ idle i₀ slots log run i = length schedule - i
 
--- the places of a turn: where it begins, where its process is ready, where its queue is known, and where it is known how its process stands after it
+-- the places of a turn: where it begins, where its process is ready, where its queue is known, and where its process after it is
 abbrev Turn : Type 0
 Turn = tie.After-shared-slice-known3 Inv-loop μ-loop
 
@@ -61,10 +60,10 @@ abbrev Queued : Type 0
 Queued = tie.After-queue-of Inv-loop μ-loop
 
 abbrev Stood : Type 0
-Stood = tie.After-standing-after Inv-loop μ-loop
+Stood = tie.After-process-after Inv-loop μ-loop
 
 abbrev turn-at : Ready → Turn
-turn-at c = c .before .before .before
+turn-at c = c .before .before
 
 abbrev ready-at : Queued → Ready
 ready-at c = c .before .before .before
@@ -124,7 +123,7 @@ q-small c =
     let s = given-to t in
     let l = come-to t .loop in
     on-queue (sizesIn (s .args .shape)) (s .pre .fit) (s .args .closing) (calls t) (calls-are t) (l .run) (l .slots) (l .log) (l .inv .3 .0 .sound)
-    (process t) (below-P t) (processIn (g .ready .result)) (g .ready .ensures .is)
+    (process t) (below-P t) (processIn (g .ready .result)) (g .ready .ensures)
     (sym (c .before .before .is-idle .ensures) ∙ c .before .if2 .left) _ (c .queue-of .ensures)
 
 loop-holds : tie.Need-loop-holds Inv-loop μ-loop
@@ -152,12 +151,6 @@ mul-ready c = omega (arith, p-small c)
 element-copy-out-ready : tie.Need-element-copy-out-ready Inv-loop μ-loop
 element-copy-out-ready c = omega (arith, p-small c)
 
-mul-ready-2 : tie.Need-mul-ready-2 Inv-loop μ-loop
-mul-ready-2 c = omega (arith, p-small (c .before))
-
-element-copy-out-ready-2 : tie.Need-element-copy-out-ready-2 Inv-loop μ-loop
-element-copy-out-ready-2 c = omega (arith, p-small (c .before))
-
 add-run : tie.Need-add-run Inv-loop μ-loop
 add-run c = let t = turn-at (c .before .before) in omega (arith, steps-few t, come-to t .loop .inv .2, one-most (given-to t .args .closing))
 
@@ -175,7 +168,7 @@ loop-again c =
       l .inv .2,
       more t _ _ _
           (way-idle (sizesIn (s .args .shape)) (s .pre .fit) (s .args .closing) (calls t) (calls-are t) (l .run) (l .slots) (l .log) (l .inv .3 .0 .sound)
-          (process t) (below-P t) (processIn (g .ready .result)) (g .ready .ensures .is)
+          (process t) (below-P t) (processIn (g .ready .result)) (g .ready .ensures)
           (sym (c .before .is-idle .ensures) ∙ c .if2 .taken) _ (l .inv .2) (l .inv .3 .0 .becomes .whole)),
     )
 
@@ -211,44 +204,13 @@ mul-then c = omega (arith, p-small (turn-of (c .before .before)))
 element-set-from-then : tie.Need-element-set-from-then Inv-loop μ-loop
 element-set-from-then c = omega (arith, p-small (turn-of (c .before .before)))
 
-mul-t54 : tie.Need-mul-t54 Inv-loop μ-loop
-mul-t54 c = omega (arith, p-small (turn-of (c .before .before .before .before)))
-
-element-set-from-run : tie.Need-element-set-from-run Inv-loop μ-loop
-element-set-from-run c = omega (arith, p-small (turn-of (c .before .before .before .before)))
-
 loop-less-2 : tie.Need-loop-less-2 Inv-loop μ-loop
-loop-less-2 c = omega (arith, here (turn-of (c .before .before .before .before)))
+loop-less-2 c = omega (arith, here (turn-of (c .before .before)))
 
 loop-again-2 : tie.Need-loop-again-2 Inv-loop μ-loop
 loop-again-2 c =
-    let d = c .before .before .before .before in
+    let d = c .before .before in
     let m = d .before .before .before .before in
-    let e = c .before .before in
-    let q = queue-at d in
-    let g = ready-at q in
-    let t = turn-at g in
-    let s = given-to t in
-    let l = come-to t .loop in (
-      omega (arith, here t),
-      omega (arith, d .before .before .before .slots .given, l .inv .1),
-      l .inv .2,
-      more t _ _ _
-          (way-begins (sizesIn (s .args .shape)) (s .pre .fit) (s .args .closing) (calls t) (calls-are t) (l .run) (l .slots) (l .log) (l .inv .3 .0 .sound)
-          (process t) (below-P t) (processIn (g .ready .result)) (g .ready .ensures .is) (sym (q .before .before .is-idle .ensures) ∙ q .before .if2 .left)
-          _ (q .queue-of .ensures) (m .step-slots .result) _ (m .step-slots .ensures) (l .inv .3 .0 .becomes .whole)
-          (d .standing-after .result) (d .standing-after .ensures) (sym (e .before .is-idle2 .ensures) ∙ not-so _ (e .if3 .taken))
-          (c .script-of .result) (c .script-of .ensures)),
-    )
-
-loop-less-3 : tie.Need-loop-less-3 Inv-loop μ-loop
-loop-less-3 c = omega (arith, here (turn-of (c .before .before .before)))
-
-loop-again-3 : tie.Need-loop-again-3 Inv-loop μ-loop
-loop-again-3 c =
-    let d = c .before .before .before in
-    let m = d .before .before .before .before in
-    let e = c .before in
     let q = queue-at d in
     let g = ready-at q in
     let t = turn-at g in
@@ -259,10 +221,9 @@ loop-again-3 c =
       l .inv .2,
       more t _ _ _
           (way-on (sizesIn (s .args .shape)) (s .pre .fit) (s .args .closing) (calls t) (calls-are t) (l .run) (l .slots) (l .log) (l .inv .3 .0 .sound)
-          (process t) (below-P t) (processIn (g .ready .result)) (g .ready .ensures .is) (sym (q .before .before .is-idle .ensures) ∙ q .before .if2 .left)
+          (process t) (below-P t) (processIn (g .ready .result)) (g .ready .ensures) (sym (q .before .before .is-idle .ensures) ∙ q .before .if2 .left)
           _ (q .queue-of .ensures) (m .step-slots .result) _ (m .step-slots .ensures) (l .inv .3 .0 .becomes .whole)
-          (d .standing-after .result) (d .standing-after .ensures) (sym (e .before .is-idle2 .ensures) ∙ not-so _ (e .if3 .taken))
-          (sym (g .ready .ensures .so) ∙ c .if4 .left)),
+          (d .process-after .result) (d .process-after .ensures) (sym (c .before .is-idle2 .ensures) ∙ not-so _ (c .if3 .taken))),
     )
 
 mul-owner : tie.Need-mul-owner Inv-loop μ-loop
@@ -284,62 +245,53 @@ tell-requires c κs =
         arith,
         few,
         held-b2 (l .run) (l .run .entries) counted (process t) (p-small t),
-        ap (λ (x : Process). x .b2) (g .ready .ensures .is),
+        ap (λ (x : Process). x .b2) (g .ready .ensures),
         same-b2 (calls t) (l .run .steps) (recordIn (l .run) (process t)) (given-to t .args .closing),
       ),
       omega (arith, few, held-b2 (l .run) (l .run .entries) counted (q .queue-of .result) (q-small q)),
       omega (arith, few, held-resets (l .run) (l .run .entries) counted (q .queue-of .result) (q-small q)),
     )
 
-mul-t34 : tie.Need-mul-t34 Inv-loop μ-loop
-mul-t34 c = omega (arith, p-small (turn-of (c .before .before .before .before .before .before .before .before)))
+mul-then-2 : tie.Need-mul-then-2 Inv-loop μ-loop
+mul-then-2 c = omega (arith, p-small (turn-of (c .before .before .before .before .before .before .before)))
 
-element-set-from-run-2 : tie.Need-element-set-from-run-2 Inv-loop μ-loop
-element-set-from-run-2 c = omega (arith, p-small (turn-of (c .before .before .before .before .before .before .before .before)))
-
-mul-t24 : tie.Need-mul-t24 Inv-loop μ-loop
-mul-t24 c = omega (arith, p-small (turn-of (c .before .before .before .before .before .before .before .before .before)))
-
-element-set-from-run-3 : tie.Need-element-set-from-run-3 Inv-loop μ-loop
-element-set-from-run-3 c = omega (arith, p-small (turn-of (c .before .before .before .before .before .before .before .before .before)))
+element-set-from-then-2 : tie.Need-element-set-from-then-2 Inv-loop μ-loop
+element-set-from-then-2 c = omega (arith, p-small (turn-of (c .before .before .before .before .before .before .before)))
 
 mul-run : tie.Need-mul-run Inv-loop μ-loop
-mul-run c = omega (arith, q-small (queue-at (c .before .before .before .before .before .before .before .before .before)))
+mul-run c = omega (arith, q-small (queue-at (c .before .before .before .before .before .before .before)))
 
 element-write-run : tie.Need-element-write-run Inv-loop μ-loop
-element-write-run c = omega (arith, q-small (queue-at (c .before .before .before .before .before .before .before .before .before)))
+element-write-run c = omega (arith, q-small (queue-at (c .before .before .before .before .before .before .before)))
 
 add-run-3 : tie.Need-add-run-3 Inv-loop μ-loop
 add-run-3 c =
-    let t = turn-of (c .before .before .before .before .before .before .before .before .before .before) in
-    let told = c .before .before .before .before .before .tell .ensures in
+    let t = turn-of (c .before .before .before .before .before .before .before .before) in
+    let told = c .before .before .before .tell .ensures in
     omega (arith, steps-few t, come-to t .loop .inv .3 .0 .counted .logged, told .more, entries-few (told .over))
 
 add-run-4 : tie.Need-add-run-4 Inv-loop μ-loop
 add-run-4 c =
-    let d = c .before .before .before .before .before .before .before .before .before .before .before in
+    let d = c .before .before .before .before .before .before .before .before .before in
     let q = queue-at d in
     let l = come-to (turn-of d) .loop in
     omega (
       arith,
       steps-few (turn-of d),
       l .inv .3 .0 .counted .gone,
-      c .before .before .before .before .before .before .tell .ensures .gone,
+      c .before .before .before .before .tell .ensures .gone,
       gone-most (processIn (ready-at q .ready .result)) (getD (l .run .resets) (q .queue-of .result) 0)
           (d .before .before .before .before .step-slots .result .next),
     )
 
-loop-less-4 : tie.Need-loop-less-4 Inv-loop μ-loop
-loop-less-4 c = omega (arith, here (turn-of (c .before .before .before .before .before .before .before .before .before .before .before)))
+loop-less-3 : tie.Need-loop-less-3 Inv-loop μ-loop
+loop-less-3 c = omega (arith, here (turn-of (c .before .before .before .before .before .before .before .before .before)))
 
-loop-again-4 : tie.Need-loop-again-4 Inv-loop μ-loop
-loop-again-4 c =
-    let d = c .before .before .before .before .before .before .before .before .before .before .before in
+loop-again-3 : tie.Need-loop-again-3 Inv-loop μ-loop
+loop-again-3 c =
+    let d = c .before .before .before .before .before .before .before .before .before in
     let m = d .before .before .before .before in
-    let e = c .before .before .before .before .before .before .before .before .before in
-    let y = c .before .before .before .rests in
-    let u = c .before .before .script-of2 in
-    let o = c .before .before .before .before .before .before .tell in
+    let o = c .before .before .before .before .tell in
     let q = queue-at d in
     let g = ready-at q in
     let t = turn-at g in
@@ -350,10 +302,9 @@ loop-again-4 c =
       l .inv .2,
       more t _ _ _
           (way-ends (sizesIn (s .args .shape)) (s .pre .fit) (s .args .closing) (calls t) (calls-are t) (l .run) (l .slots) (l .log) (l .inv .3 .0 .sound)
-          (process t) (below-P t) (processIn (g .ready .result)) (g .ready .ensures .is) (sym (q .before .before .is-idle .ensures) ∙ q .before .if2 .left)
+          (process t) (below-P t) (processIn (g .ready .result)) (g .ready .ensures) (sym (q .before .before .is-idle .ensures) ∙ q .before .if2 .left)
           _ (q .queue-of .ensures) (m .step-slots .result) _ (m .step-slots .ensures) (l .inv .3 .0 .becomes .whole)
-          (ap (λ (z : Standing). isIdle (z .stage)) (sym (d .standing-after .ensures)) ∙ sym (e .before .is-idle2 .ensures) ∙ so _ (e .if3 .left))
-          (y .result) (y .ensures) (u .result) (u .ensures) (o .result) _ (o .ensures)),
+          (d .process-after .result) (d .process-after .ensures) (o .result) _ (o .ensures)),
     )
 
 sub-if-so : tie.Need-sub-if-so Inv-loop μ-loop
@@ -394,8 +345,6 @@ walk-spec =
     add-i
     mul-ready
     element-copy-out-ready
-    mul-ready-2
-    element-copy-out-ready-2
     (λ c κs. search needs)
     (λ c κs. search needs)
     add-run
@@ -415,28 +364,19 @@ walk-spec =
     (λ c κs. search needs)
     mul-then
     element-set-from-then
-    (λ c κs. search needs)
-    mul-t54
-    element-set-from-run
     loop-less-2
     loop-again-2
-    loop-less-3
-    loop-again-3
     mul-owner
     element-copy-out-owner
     tell-requires
-    (λ c κs. search needs)
-    mul-t34
-    element-set-from-run-2
-    (λ c κs. search needs)
-    mul-t24
-    element-set-from-run-3
+    mul-then-2
+    element-set-from-then-2
     mul-run
     element-write-run
     add-run-3
     add-run-4
-    loop-less-4
-    loop-again-4
+    loop-less-3
+    loop-again-3
     sub-if-so
     cast-if-so
     (λ c κs. search needs)

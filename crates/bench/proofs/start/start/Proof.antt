@@ -42,7 +42,7 @@ returns c = (
     gone = 0;
   },
   refl,
-  record { words = refl; resets = refl; standings = refl; scripts = refl },
+  record { words = refl; resets = refl; processes = refl },
 )
 
 pub start-spec : {M : Type 1} → statement M
