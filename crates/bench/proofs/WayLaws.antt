@@ -6,8 +6,8 @@ use mathlib.Core.List.{List, []}
 use native.Mathlib.Omega.{arith}
 use lib.Dec.{eqb, ltb, leb}
 use lib.ListN.{length, getD, set, length-set}
-use Rattle.base.proofs.Cases.{never, ever, either-way}
-use Rattle.word.specs.Stages.{isIdle, atT1, atB2}
+use Rattle.base.proofs.Cases.{ever, either-way}
+use Rattle.word.specs.Stages.{isIdle}
 use Rattle.word.specs.declared.Word.{Word}
 use Rattle.word.specs.declared.Stage.{Stage}
 use Rattle.word.specs.declared.Stage.the-variants.{Idle, P1, P2, P3, T1, T2, T3, T4, B1, B2, B3, B4, B5, B6, B7}
@@ -24,7 +24,6 @@ use Rattle.runs.specs.Moment.{queueOf, ended, goneRound, Ended, Nothing}
 use Rattle.runs.specs.State.{Process, Queue, State, queueAt, processAt}
 use Rattle.runs.specs.Turn.{ready, queueAfter, processAfter, entriesIn, benchAfter, act, idle}
 use Rattle.runs.specs.inner.Sound.{Sizes, Fit, processes, AllIn, Placed, Sound}
-use Rattle.runs.proofs.KindLaws.{idle-is}
 use Rattle.runs.proofs.Sound.{turning-placed}
 use Rattle.bench.specs.inner.Layout.{processIn, freshHeld, idleHeld, queueIn, recordIn, benchIn, slotsIn, stateIn, Whole, StepsIn, putEntries, Becomes, Tells}
 use Rattle.bench.specs.inner.Walk.{walking, walkedOne}

@@ -2,21 +2,18 @@
 -- its bytes.
 use Prim.Native.Nat.{ℕ, suc, _+_, _*_, _/_, _%_, _≤_, _<_}
 use mathlib.Core.Path.{_≡_}
-use mathlib.Core.Bool.{Bool, false, cond, _&&_}
+use mathlib.Core.Bool.{cond}
 use mathlib.Core.List.{List, [], _∷_}
-use lib.Dec.{ltb}
 use lib.ListN.{length, getD, take, drop, set}
 use Rattle.base.specs.Bytes.{putAt}
 use Rattle.base.specs.Lists.{listOf}
 use Rattle.log.specs.Decode.{logLength}
 use Rattle.log.specs.Encode.{entryBytes}
 use Rattle.log.specs.declared.Entry.{Entry}
-use Rattle.queue.specs.Step.{stored, inSixteen, steppedOn, stageAfter}
+use Rattle.queue.specs.Step.{stored, inSixteen, steppedOn}
 use Rattle.queue.specs.Packed.{unpacked, unpackedStep, topOf}
-use Rattle.queue.specs.declared.Next.{Next}
 use Rattle.queue.specs.declared.PackedStep.{PackedStep}
 use Rattle.queue.specs.declared.PackedWord.{PackedWord}
-use Rattle.word.specs.Stages.{isIdle, atT1, atB2}
 use Rattle.word.specs.inner.StepsLeft.{stepsLeft}
 use Rattle.word.specs.declared.Stage.{Stage}
 use Rattle.word.specs.declared.Stage.the-variants.{Idle}
@@ -30,7 +27,7 @@ use Rattle.runs.specs.inner.Counted.{Counted}
 use Rattle.runs.specs.inner.Sound.{Sizes, Fit, Sound}
 use Rattle.runs.specs.inner.Left.{total}
 use Rattle.runs.specs.Run.{tableRowLength, inTable}
-use Rattle.runs.specs.Turn.{entriesIn, ready}
+use Rattle.runs.specs.Turn.{entriesIn}
 use Rattle.bench.specs.declared.Bench.{Bench as HeldBench}
 use Rattle.bench.specs.declared.Ended.{Ended as HeldEnded}
 use Rattle.bench.specs.declared.Ended.the-variants as held

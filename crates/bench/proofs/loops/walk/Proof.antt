@@ -6,7 +6,6 @@ use mathlib.Core.List.{List}
 use borrow.Author.Needs.{needs}
 use lib.ListN.{length, getD}
 use native.Mathlib.Omega.{arith}
-use Rattle.word.specs.Stages.{isIdle}
 use Rattle.runs.specs.State.{Process}
 use Rattle.runs.specs.inner.Sound.{AllIn}
 use Rattle.runs.proofs.TurnLaws.{calls-in, entries-few, gone-most}

@@ -1,8 +1,6 @@
 -- `judge::nodes::differ` meets its contract. The loop keeps `Marked`: the nodes of the pushes passed are marked, and differ.
 use mathlib.Core.Path.{_≡_, sym, ap, _∙_, subst}
-use mathlib.Core.Bool.{true, false}
-use mathlib.Core.List.{List}
-use Prim.Native.Nat.{ℕ, _+_, _-_, _≤_, _<_}
+use Prim.Native.Nat.{_+_, _-_, _≤_, _<_}
 use native.Mathlib.Omega.{arith}
 use borrow.Author.Needs.{needs}
 use Rattle.base.proofs.Cases.{ever}
