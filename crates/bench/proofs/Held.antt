@@ -5,9 +5,9 @@ use mathlib.Core.List.{List, []}
 use native.Mathlib.Omega.{arith}
 use native.Mathlib.Decide.{decLt}
 use lib.ListN.{getD, List·getD-eq-default}
-use Rattle.queue.specs.Packed.{packedWord, unpacked}
-use Rattle.queue.specs.declared.PackedWord.{PackedWord}
-use Rattle.queue.proofs.PackedLaws.{packed-again}
+use Rattle.steps.specs.Packed.{packedWord, unpacked}
+use Rattle.steps.specs.declared.PackedWord.{PackedWord}
+use Rattle.steps.proofs.PackedLaws.{packed-again}
 use Rattle.runs.specs.State.{Bench, Queue, State, fresh, queueAt}
 use Rattle.bench.specs.inner.Layout.{freshHeld, benchIn, Becomes}
 use Rattle.bench.specs.declared.Bench.{Bench as HeldBench}

@@ -13,14 +13,14 @@ use Rattle.base.specs.Lists.{listOf}
 use Rattle.log.specs.Encode.{entryBytes}
 use Rattle.base.proofs.Lists.{listOf-length, listOf-getD}
 use Rattle.log.specs.declared.Entry.{Entry}
-use Rattle.queue.specs.Step.{stored}
-use Rattle.queue.specs.Packed.{unpacked, StepPacked}
+use Rattle.steps.specs.Step.{stored}
+use Rattle.steps.specs.Packed.{unpacked, StepPacked}
 use Rattle.word.specs.declared.Stage.{Stage}
-use Rattle.queue.specs.declared.Stepped.{Stepped}
-use Rattle.queue.specs.declared.PackedStep.{PackedStep}
-use Rattle.queue.specs.declared.PackedWord.{PackedWord}
-use Rattle.queue.specs.declared.Store.{Store}
-use Rattle.queue.specs.declared.Store.the-variants as store
+use Rattle.steps.specs.declared.Stepped.{Stepped}
+use Rattle.steps.specs.declared.PackedStep.{PackedStep}
+use Rattle.steps.specs.declared.PackedWord.{PackedWord}
+use Rattle.steps.specs.declared.Store.{Store}
+use Rattle.steps.specs.declared.Store.the-variants as store
 use Rattle.bench.specs.inner.Layout.{processIn, freshHeld, idleHeld, queueIn, recordIn, benchIn, slotsOf, slotsIn, StepsIn, putEntries}
 use Rattle.runs.specs.State.{Process, Queue, fresh, nobody, queueAt, processAt}
 use Rattle.runs.specs.inner.Counted.{Counted}

@@ -11,13 +11,13 @@ use Rattle.word.specs.Stages.{isIdle}
 use Rattle.word.specs.declared.Word.{Word}
 use Rattle.word.specs.declared.Stage.{Stage}
 use Rattle.word.specs.declared.Stage.the-variants.{Idle, P1, P2, P3, T1, T2, T3, T4, B1, B2, B3, B4, B5, B6, B7}
-use Rattle.queue.specs.Step.{sameAge, rowOf, loaded, loadedSlot, inSixteen, steppedOn, stageAfter}
-use Rattle.queue.specs.Packed.{unpacked, unpackedStep}
-use Rattle.queue.specs.declared.Next.{Next}
-use Rattle.queue.specs.declared.Next.the-variants.{Going, Done, Node, Nil, Lost, Full}
-use Rattle.queue.specs.declared.Stepped.{Stepped}
-use Rattle.queue.specs.declared.PackedStep.{PackedStep}
-use Rattle.queue.proofs.StepLaws.{sixteen-in}
+use Rattle.steps.specs.Step.{sameAge, rowOf, loaded, loadedSlot, inSixteen, steppedOn, stageAfter}
+use Rattle.steps.specs.Packed.{unpacked, unpackedStep}
+use Rattle.steps.specs.declared.Next.{Next}
+use Rattle.steps.specs.declared.Next.the-variants.{Going, Done, Node, Nil, Lost, Full}
+use Rattle.steps.specs.declared.Stepped.{Stepped}
+use Rattle.steps.specs.declared.PackedStep.{PackedStep}
+use Rattle.steps.proofs.StepLaws.{sixteen-in}
 use Rattle.word.specs.inner.InRange.{InRange}
 use Rattle.runfile.specs.declared.Call.{Call}
 use Rattle.runs.specs.Moment.{queueOf, ended, goneRound, Ended, Nothing}

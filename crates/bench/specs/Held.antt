@@ -3,7 +3,7 @@ use Prim.Native.Nat.{ℕ, _+_, _*_, _<_}
 use mathlib.Core.Path.{_≡_}
 use mathlib.Core.List.{List, []}
 use lib.ListN.{getD}
-use Rattle.queue.specs.Packed.{packedWord}
+use Rattle.steps.specs.Packed.{packedWord}
 use Rattle.runs.specs.State.{State, queueCount, queueAt}
 use Rattle.bench.specs.declared.Bench.{Bench as HeldBench}
 use Rattle.bench.specs.inner.Layout.{freshHeld, Becomes}

@@ -15,10 +15,10 @@ mod table; // the final table
 mod turn; // one step of a run
 
 use log::Entry;
-use queue::PackedWord;
 use runfile::Call;
 use runfile::Reading;
 use runfile::Shape;
+use steps::PackedWord;
 use word::Stage;
 
 // The rounds of the closing at most: eight calls are half-done.

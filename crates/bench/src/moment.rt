@@ -7,8 +7,8 @@ use crate::Ended;
 use crate::Process;
 use log::Entry;
 use log::What;
-use queue::Next;
 use runfile::Call;
+use steps::Next;
 
 // The queue of the call of process p, its record being of.
 pub(crate) fn queue_of(p: u8, of: Process) -> u8

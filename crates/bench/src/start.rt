@@ -8,9 +8,9 @@ ghost use Rattle.bench.specs.inner.Layout.{processIn, benchIn, Whole};
 ghost use Rattle.runs.specs.State.{scripted as scriptedOf, startBench};
 use crate::Bench;
 use crate::Process;
-use queue::PackedAge;
-use queue::PackedWord;
 use runfile::Call;
+use steps::PackedAge;
+use steps::PackedWord;
 use word::Stage;
 
 // How many calls process p has; from P on, none.

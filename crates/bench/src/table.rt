@@ -8,7 +8,7 @@ ghost use Rattle.bench.specs.inner.Layout.{allSlots, slotsIn, wordsTable
 ghost use Rattle.runs.specs.Run.{tableRow, tableSize};
 use crate::TABLE_ROW;
 use crate::TABLE_SIZE;
-use queue::PackedWord;
+use steps::PackedWord;
 use word::Word;
 
 // Puts a queue's row into the table: bottom, top, tag and its slots.

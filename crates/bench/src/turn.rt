@@ -4,18 +4,18 @@ ghost use mathlib.Core.Bool.{cond};
 ghost use Prim.Native.Nat.{_≤_, _<_};
 ghost use lib.ListN.{length, getD};
 ghost use Rattle.word.specs.Stages.{isIdle};
-ghost use Rattle.queue.specs.Step.{stageAfter};
+ghost use Rattle.steps.specs.Step.{stageAfter};
 ghost use Rattle.bench.specs.inner.Layout.{allSlots, processIn, endedIn, putEntries, StepsIn, Tells};
 ghost use Rattle.runfile.specs.File.{firstCalls};
 ghost use Rattle.runs.specs.Turn.{firstStage, begun as begunOf, entriesIn, ready as readyOf, processAfter};
 use crate::Ended;
 use crate::Process;
 use crate::moment;
-use queue::Next;
-use queue::PackedStep;
-use queue::PackedWord;
 use runfile::Call;
 use runfile::Shape;
+use steps::Next;
+use steps::PackedStep;
+use steps::PackedWord;
 use word::Stage;
 
 fn first_stage(call: Call) -> Stage

@@ -9,16 +9,16 @@ use lib.ListN.{length}
 use Rattle.range.specs.Range.{inRange}
 use Rattle.word.specs.inner.InRange.{SizesIn, WordIn, StageIn, InRange}
 use Rattle.range.proofs.RangeLaws.{in-range, range-in}
-use Rattle.queue.specs.Step.{rowOf, loadedSlot, loaded, stored, steppedOn, stageAfter, resultOf as nextResult, StepOn}
-use Rattle.queue.proofs.StepLaws.{sixteen-in}
+use Rattle.steps.specs.Step.{rowOf, loadedSlot, loaded, stored, steppedOn, stageAfter, resultOf as nextResult, StepOn}
+use Rattle.steps.proofs.StepLaws.{sixteen-in}
 use Rattle.desk.specs.Refusals.{OfB, OfAge, From, Refuses, width-high, size-low, size-high, slots-not-C, bottom-above, top-above, b-above, t-above, word-tag, stage-tag, push-b, take-t, pop-b}
 use Rattle.desk.specs.Desk.{answerOf, numberOf, stageOf, resultOf, deskAnswer, deskWord, deskSlots, AtDesk}
 use Rattle.word.specs.declared.Word.{Word}
 use Rattle.word.specs.declared.Stage.{Stage}
 use Rattle.word.specs.declared.Stage.the-variants.{Idle, P1, P2, P3, T1, T2, T3, T4, B1, B2, B3, B4, B5, B6, B7}
-use Rattle.queue.specs.declared.Next.{Next}
-use Rattle.queue.specs.declared.Next.the-variants as next
-use Rattle.queue.specs.declared.Stepped.{Stepped}
+use Rattle.steps.specs.declared.Next.{Next}
+use Rattle.steps.specs.declared.Next.the-variants as next
+use Rattle.steps.specs.declared.Stepped.{Stepped}
 use Rattle.desk.specs.declared.Answer.{Answer}
 use Rattle.desk.specs.declared.Answer.the-variants.{Going, Refused}
 

@@ -1,8 +1,8 @@
 // The desk: one queue stepped by hand, one access a call, its control word altered where it stands.
 ghost use mathlib.Core.Path.{_≡_};
 ghost use Rattle.desk.specs.Desk.{answerOf, AtDesk};
-use queue::Next;
 use queue::step_on;
+use steps::Next;
 use word::Stage;
 use word::Word;
 

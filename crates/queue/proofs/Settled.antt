@@ -5,12 +5,11 @@ use Prim.Native.Nat.{ℕ}
 use Rattle.base.proofs.Settled.{one-value}
 use Rattle.word.specs.declared.Word.{Word}
 use Rattle.word.specs.declared.Stage.{Stage}
-use Rattle.queue.specs.Step.{StepOn}
-use Rattle.queue.specs.Packed.{packed, topOf, tagOf, nextAge, packedWord, unpacked, StepPacked}
-use Rattle.queue.specs.declared.Stepped.{Stepped}
-use Rattle.queue.specs.declared.PackedAge.{PackedAge}
-use Rattle.queue.specs.declared.PackedWord.{PackedWord}
-use Rattle.queue.specs.declared.PackedStep.{PackedStep}
+use Rattle.steps.specs.Step.{StepOn}
+use Rattle.steps.specs.Packed.{StepPacked}
+use Rattle.steps.specs.declared.Stepped.{Stepped}
+use Rattle.steps.specs.declared.PackedWord.{PackedWord}
+use Rattle.steps.specs.declared.PackedStep.{PackedStep}
 
 pub step-on : (W C : ℕ) (w : Word) (slots : List ℕ) (s : Stage) (r r′ : Stepped) (l l′ : List ℕ) →
     StepOn W C w slots s r l → StepOn W C w slots s r′ l′ → (r ≡ r′) × (l ≡ l′)
@@ -28,23 +27,3 @@ step-packed W C w slots s r r′ l l′ p q =
       },
       one-value (p .unpacks .kept) (q .unpacks .kept),
     )
-
--- of PackedAge::of, top, tag and next_age
-pub age-of : (t g : ℕ) (r r′ : PackedAge) → r .word ≡ packed t g → r′ .word ≡ packed t g → r ≡ r′
-age-of t g r r′ p q = λ i. record { word = one-value p q i }
-
-pub top : (a r r′ : ℕ) → r ≡ topOf a → r′ ≡ topOf a → r ≡ r′
-top a r r′ = one-value
-
-pub tag : (a r r′ : ℕ) → r ≡ tagOf a → r′ ≡ tagOf a → r ≡ r′
-tag a r r′ = one-value
-
-pub next-age : (W a : ℕ) (r r′ : PackedAge) → r .word ≡ nextAge W a → r′ .word ≡ nextAge W a → r ≡ r′
-next-age W a r r′ p q = λ i. record { word = one-value p q i }
-
--- of PackedWord::of and unpacked
-pub word-of : (w : Word) (r r′ : PackedWord) → r ≡ packedWord w → r′ ≡ packedWord w → r ≡ r′
-word-of w r r′ = one-value
-
-pub unpacked-word : (w : PackedWord) (r r′ : Word) → r ≡ unpacked w → r′ ≡ unpacked w → r ≡ r′
-unpacked-word w r r′ = one-value

@@ -1,64 +1,19 @@
 // The step of the queue: document 01's table, one shared access with the local work after it, by value.
 // It knows nothing of how slots lie, of processes or of runs.
 ghost use mathlib.Core.Path.{_≡_};
-ghost use Rattle.queue.specs.Step.{loadedSlot, loaded, stored, StepOn};
-ghost use Rattle.queue.specs.Packed.{StepPacked};
+ghost use Rattle.steps.specs.Step.{loadedSlot, loaded, stored, StepOn};
+ghost use Rattle.steps.specs.Packed.{StepPacked};
 
-mod age; // top and tag in one word
 mod rows; // the rows of the table
-mod tag; // the next tag, which goes round
 
+use steps::Load;
+use steps::PackedStep;
+use steps::PackedWord;
+use steps::Stepped;
+use steps::Store;
 use word::Stage;
 use word::Word;
 use word::stages::below;
-
-// What follows a step: the next stage, or the result of the call. Lost: NIL at T4, where the race was lost.
-pub enum Next {
-    Going(Stage),
-    Done,
-    Node(u16),
-    Nil,
-    Lost,
-    Full,
-}
-
-// The slot that a stage loads, if it loads one.
-pub enum Load {
-    Nothing,
-    Slot(u16),
-}
-
-// The store in a slot that a step makes, if it makes one: the slot, and the node.
-pub enum Store {
-    Nothing,
-    Slot(u16, u16),
-}
-
-pub struct Stepped {
-    pub word: Word,
-    pub store: Store,
-    pub reset: bool,
-    pub next: Next,
-}
-
-// Top and tag in one word, as the box has them: tag × 65,536 + top.
-pub struct PackedAge {
-    pub word: u32,
-}
-
-// The control word as the box has it.
-pub struct PackedWord {
-    pub bottom: u16,
-    pub age: PackedAge,
-}
-
-// A step on such a word.
-pub struct PackedStep {
-    pub word: PackedWord,
-    pub store: Store,
-    pub reset: bool,
-    pub next: Next,
-}
 
 // The slot that a stage loads; only T3 and B3 load one.
 fn loaded_slot(stage: Stage) -> Load

@@ -1,13 +1,13 @@
 // The rows of document 01's table, each by its own name: the access, then the local work. In a row's promise 0 stands for a number
 // that the row does not use. A row answers for every word and stage, so that its sums go round as 16-bit numbers; in range none does.
 ghost use mathlib.Core.Path.{_≡_};
-ghost use Rattle.queue.specs.Packed.{unpacked, unpackedStep};
-ghost use Rattle.queue.specs.Step.{leaves as leavesOf, resets, sameAge, rowOf, inSixteen};
-use crate::Next;
-use crate::PackedAge;
-use crate::PackedStep;
-use crate::PackedWord;
-use crate::Store;
+ghost use Rattle.steps.specs.Packed.{unpacked, unpackedStep};
+ghost use Rattle.steps.specs.Step.{leaves as leavesOf, resets, sameAge, rowOf, inSixteen};
+use steps::Next;
+use steps::PackedAge;
+use steps::PackedStep;
+use steps::PackedWord;
+use steps::Store;
 use word::Stage;
 use word::stages::below;
 

@@ -15,12 +15,12 @@ use Rattle.base.proofs.Lists.{listOf-getD}
 use Rattle.log.specs.Numbers.{push, bottomPop, topPop}
 use Rattle.log.specs.declared.Entry.{Entry}
 use Rattle.word.specs.Stages.{rowNumber, isIdle}
-use Rattle.queue.specs.Step.{sameAge, rowOf, loaded, loadedSlot, stageAfter}
-use Rattle.queue.specs.declared.Next.{Next}
-use Rattle.queue.specs.declared.Next.the-variants.{Going, Done, Node, Nil, Lost, Full}
+use Rattle.steps.specs.Step.{sameAge, rowOf, loaded, loadedSlot, stageAfter}
+use Rattle.steps.specs.declared.Next.{Next}
+use Rattle.steps.specs.declared.Next.the-variants.{Going, Done, Node, Nil, Lost, Full}
 use Rattle.word.specs.declared.Stage.{Stage}
 use Rattle.word.specs.declared.Stage.the-variants.{Idle, P1, P2, P3, T1, T2, T3, T4, B1, B2, B3, B4, B5, B6, B7}
-use Rattle.queue.specs.declared.Stepped.{Stepped}
+use Rattle.steps.specs.declared.Stepped.{Stepped}
 use Rattle.word.specs.declared.Word.{Word}
 use Rattle.runfile.specs.Check.{sum}
 use Rattle.runfile.proofs.CheckLaws.{sum-next}

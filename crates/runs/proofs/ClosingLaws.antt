@@ -9,8 +9,8 @@ use lib.ListN.{length, getD, set, length-set}
 use Rattle.base.specs.Lists.{listOf}
 use Rattle.word.specs.Stages.{isIdle}
 use Rattle.word.specs.inner.StepsLeft.{stepsLeft}
-use Rattle.queue.specs.Step.{loaded, loadedSlot, stageAfter}
-use Rattle.queue.proofs.StepLaws.{lowers, returned}
+use Rattle.steps.specs.Step.{loaded, loadedSlot, stageAfter}
+use Rattle.steps.proofs.StepLaws.{lowers, returned}
 use Rattle.word.specs.declared.Stage.{Stage}
 use Rattle.word.specs.declared.Stage.the-variants.{Idle, P1, P2, P3, T1, T2, T3, T4, B1, B2, B3, B4, B5, B6, B7}
 use Rattle.runfile.specs.{Encode.InRanges, File.RunFile}

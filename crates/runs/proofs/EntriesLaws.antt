@@ -9,9 +9,9 @@ use lib.ListN.{length, getD, take, set, length-set, length-append}
 use borrow.Author.Tests.{ltb-true}
 use Rattle.base.specs.Lists.{listOf}
 use Rattle.word.specs.Stages.{isIdle}
-use Rattle.queue.specs.Step.{stageAfter}
-use Rattle.queue.specs.declared.Next.{Next}
-use Rattle.queue.specs.declared.Next.the-variants.{Going, Done, Node, Nil, Lost, Full}
+use Rattle.steps.specs.Step.{stageAfter}
+use Rattle.steps.specs.declared.Next.{Next}
+use Rattle.steps.specs.declared.Next.the-variants.{Going, Done, Node, Nil, Lost, Full}
 use Rattle.runfile.specs.Check.{sum}
 use Rattle.runfile.specs.File.{RunFile}
 use Rattle.runfile.specs.declared.Call.{Call}

@@ -7,10 +7,10 @@ use native.Mathlib.Omega.{arith}
 use lib.Dec.{ltb}
 use lib.ListN.{length, getD}
 use Rattle.range.specs.Range.{inRange}
-use Rattle.queue.specs.Step.{loadedSlot, loaded}
+use Rattle.steps.specs.Step.{loadedSlot, loaded}
 use Rattle.base.proofs.Cases.{either-way, ever}
-use Rattle.queue.proofs.Below.{LoadsBelow, StoresBelow}
-use Rattle.queue.proofs.StepLaws.{loads-below, stores-below}
+use Rattle.steps.proofs.Below.{LoadsBelow, StoresBelow}
+use Rattle.steps.proofs.StepLaws.{loads-below, stores-below}
 use Rattle.runfile.specs.Encode.{InRanges}
 use Rattle.base.specs.Bytes.{Bytes}
 use Rattle.runfile.specs.File.{RunFile, Answer, refused, good, fileOf}
@@ -20,8 +20,8 @@ use Rattle.runs.specs.Moment.{queueOf}
 use Rattle.log.specs.Decode.{logLength}
 use Rattle.runs.specs.Run.{Outcome, refusal, finished, closed, outcome, runOf}
 use Rattle.word.specs.Stages.{isIdle}
-use Rattle.queue.specs.declared.Load.the-variants as load
-use Rattle.queue.specs.declared.Store.the-variants as store
+use Rattle.steps.specs.declared.Load.the-variants as load
+use Rattle.steps.specs.declared.Store.the-variants as store
 use Rattle.runs.specs.State.{Process, State, queueAt, processAt}
 use Rattle.runs.specs.Turn.{stepping}
 use Rattle.runs.proofs.Sound.{placed-in-range}

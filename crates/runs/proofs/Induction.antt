@@ -11,7 +11,7 @@ use lib.Dec.{ltb}
 use lib.ListN.{length, getD, take}
 use lib.Seq.{take-suc}
 use Rattle.word.specs.Stages.{isIdle}
-use Rattle.queue.specs.declared.Next.{Next}
+use Rattle.steps.specs.declared.Next.{Next}
 use Rattle.runfile.specs.File.{RunFile}
 use Rattle.runfile.specs.declared.Call.{Call}
 use Rattle.runs.specs.Moment.{queueOf, Ended}

@@ -7,14 +7,14 @@ use Rattle.runs.specs.Moment.{queueOf, isTake}
 use Rattle.runs.specs.inner.Sound.{isPush, isTop, isOwn, isFirst, Suits}
 use Rattle.runs.specs.Turn.{firstStage}
 use Rattle.word.specs.Stages.{rowNumber, isIdle, pastB2}
-use Rattle.queue.specs.Step.{sameAge, rowOf, stageAfter}
+use Rattle.steps.specs.Step.{sameAge, rowOf, stageAfter}
 use Rattle.base.proofs.Cases.{either-way, never, ever}
 use Rattle.word.specs.declared.Word.{Word}
 use Rattle.word.specs.declared.Stage.{Stage}
 use Rattle.word.specs.declared.Stage.the-variants.{Idle, P1, P2, P3, T1, T2, T3, T4, B1, B2, B3, B4, B5, B6, B7}
-use Rattle.queue.specs.declared.Next.{Next}
-use Rattle.queue.specs.declared.Next.the-variants as next
-use Rattle.queue.specs.declared.Stepped.{Stepped}
+use Rattle.steps.specs.declared.Next.{Next}
+use Rattle.steps.specs.declared.Next.the-variants as next
+use Rattle.steps.specs.declared.Stepped.{Stepped}
 use Rattle.runfile.specs.declared.Call.{Call}
 use Rattle.runfile.specs.declared.Call.the-variants.{Push, Pop, Take}
 

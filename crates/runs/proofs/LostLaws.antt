@@ -12,11 +12,11 @@ use Rattle.word.specs.Stages.{isIdle}
 use Rattle.word.specs.declared.Stage.{Stage}
 use Rattle.word.specs.declared.Stage.the-variants.{Idle, P1, P2, P3, T1, T2, T3, T4, B1, B2, B3, B4, B5, B6, B7}
 use Rattle.word.specs.declared.Word.{Word}
-use Rattle.queue.specs.Step.{sameAge, rowOf, loadedSlot, loaded}
-use Rattle.queue.specs.declared.Next.{Next}
-use Rattle.queue.specs.declared.Next.the-variants.{Going, Done, Node, Nil, Lost, Full}
-use Rattle.queue.specs.declared.Stepped.{Stepped}
-use Rattle.queue.proofs.StepLaws.{failed-T4}
+use Rattle.steps.specs.Step.{sameAge, rowOf, loadedSlot, loaded}
+use Rattle.steps.specs.declared.Next.{Next}
+use Rattle.steps.specs.declared.Next.the-variants.{Going, Done, Node, Nil, Lost, Full}
+use Rattle.steps.specs.declared.Stepped.{Stepped}
+use Rattle.steps.proofs.StepLaws.{failed-T4}
 use Rattle.base.proofs.Cases.{either-way, ever}
 use Rattle.runs.specs.Moment.{queueOf, isTake, ended}
 use Rattle.runs.specs.Shown.{FailsT4, Writes3}

@@ -16,11 +16,11 @@ use Rattle.word.specs.Stages.{isIdle}
 use Rattle.word.specs.inner.StepsLeft.{stepsLeft}
 use Rattle.word.specs.declared.Stage.{Stage}
 use Rattle.word.specs.declared.Word.{Word}
-use Rattle.queue.specs.Step.{loadedSlot, loaded, stageAfter}
-use Rattle.queue.specs.declared.Next.{Next}
-use Rattle.queue.specs.declared.Next.the-variants.{Going, Done, Node, Nil, Lost, Full}
-use Rattle.queue.specs.declared.Stepped.{Stepped}
-use Rattle.queue.proofs.StepLaws.{lowers}
+use Rattle.steps.specs.Step.{loadedSlot, loaded, stageAfter}
+use Rattle.steps.specs.declared.Next.{Next}
+use Rattle.steps.specs.declared.Next.the-variants.{Going, Done, Node, Nil, Lost, Full}
+use Rattle.steps.specs.declared.Stepped.{Stepped}
+use Rattle.steps.proofs.StepLaws.{lowers}
 use Rattle.runfile.specs.Encode.{InRanges}
 use Rattle.runfile.specs.File.{RunFile}
 use Rattle.runfile.specs.declared.Call.{Call}

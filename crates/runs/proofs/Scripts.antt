@@ -12,7 +12,7 @@ use borrow.Author.Tests.{ltb-true}
 use Rattle.base.proofs.Lists.{listOf-length, listOf-getD}
 use Rattle.word.specs.Stages.{isIdle}
 use Rattle.base.proofs.Cases.{either-way, ever, if-set}
-use Rattle.queue.specs.Step.{stageAfter}
+use Rattle.steps.specs.Step.{stageAfter}
 use Rattle.word.specs.declared.Stage.{Stage}
 use Rattle.word.specs.declared.Stage.the-variants.{Idle}
 use Rattle.runfile.specs.Check.{sum}

@@ -11,12 +11,12 @@ use Rattle.range.specs.Range.{inRange}
 use Rattle.word.specs.inner.InRange.{WordIn, StageIn}
 use Rattle.range.proofs.RangeLaws.{range-in}
 use Rattle.word.specs.Stages.{isIdle}
-use Rattle.queue.specs.Step.{loadedSlot, loaded, stored}
-use Rattle.queue.proofs.StepLaws.{stays-in, StaysIn}
+use Rattle.steps.specs.Step.{loadedSlot, loaded, stored}
+use Rattle.steps.proofs.StepLaws.{stays-in, StaysIn}
 use Rattle.word.specs.declared.Stage.the-variants.{Idle}
-use Rattle.queue.specs.declared.Stepped.{Stepped}
-use Rattle.queue.specs.declared.Store.{Store}
-use Rattle.queue.specs.declared.Store.the-variants as store
+use Rattle.steps.specs.declared.Stepped.{Stepped}
+use Rattle.steps.specs.declared.Store.{Store}
+use Rattle.steps.specs.declared.Store.the-variants as store
 use Rattle.runfile.specs.declared.Call.{Call}
 use Rattle.runfile.specs.declared.Call.the-variants.{Push, Pop, Take}
 use Rattle.runs.specs.Moment.{queueOf}

@@ -11,9 +11,9 @@ use lib.ListN.{length, length-append, getD, set, length-set, List·getD-eq-defau
 use lib.Seq.{getD-set-same, getD-set-other, set-out}
 use Rattle.base.proofs.Cases.{either-way}
 use Rattle.word.specs.Stages.{isIdle, atB2}
-use Rattle.queue.specs.declared.Next.{Next}
-use Rattle.queue.specs.declared.Next.the-variants.{Going, Done, Node, Nil, Lost, Full}
-use Rattle.queue.specs.declared.Stepped.{Stepped}
+use Rattle.steps.specs.declared.Next.{Next}
+use Rattle.steps.specs.declared.Next.the-variants.{Going, Done, Node, Nil, Lost, Full}
+use Rattle.steps.specs.declared.Stepped.{Stepped}
 use Rattle.base.specs.Bytes.{byteAt, numberAt}
 use Rattle.base.proofs.Lists.{listOf-length, listOf-getD}
 use Rattle.runfile.specs.declared.Coded.{Coded}

@@ -3,8 +3,8 @@ use Rattle.base.specs.Words.{ℕ, _+_, _*_, Bool, true, false, cond, not, _&&_,
 use Rattle.log.specs.{Numbers.kindOf, Numbers.resultOf, Numbers.noMoment, declared.Entry.Entry, declared.What.What}
 use Rattle.log.specs.declared.What.the-variants as what
 use Rattle.word.specs.Stages.{pastB2, popsSlot}
-use Rattle.queue.specs.declared.Next.{Next}
-use Rattle.queue.specs.declared.Next.the-variants.{Going, Done, Node, Nil, Lost, Full}
+use Rattle.steps.specs.declared.Next.{Next}
+use Rattle.steps.specs.declared.Next.the-variants.{Going, Done, Node, Nil, Lost, Full}
 use Rattle.runfile.specs.{declared.Call.Call, declared.Call.the-variants.Push, declared.Call.the-variants.Pop, declared.Call.the-variants.Take}
 use Rattle.runs.specs.State.{Process}
 

@@ -4,9 +4,9 @@ use Rattle.base.specs.{Bytes.Bytes, Lists.All}
 use Rattle.log.specs.{Numbers.push, Numbers.bottomPop, Numbers.lost, declared.Entry.Entry}
 use Rattle.word.specs.{Stages.isIdle, declared.Stage.Stage, declared.Word.Word, declared.Stage.the-variants.T4}
 use Rattle.range.specs.Range.{inRange}
-use Rattle.queue.specs.Step.{sameAge, loadedSlot}
-use Rattle.queue.specs.declared.Load.the-variants as load
-use Rattle.queue.specs.declared.Store.the-variants as store
+use Rattle.steps.specs.Step.{sameAge, loadedSlot}
+use Rattle.steps.specs.declared.Load.the-variants as load
+use Rattle.steps.specs.declared.Store.the-variants as store
 use Rattle.runfile.specs.{Check.sum, Encode.InRanges, File.RunFile, File.script, declared.Call.Call}
 use Rattle.runfile.specs.declared.Call.the-variants.{Push, Pop, Take}
 use Rattle.runs.specs.{Moment.queueOf, Moment.Ended, Moment.Nothing, Moment.ends, State.Process, State.State, State.queueAt, State.processAt}

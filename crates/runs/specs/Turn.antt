@@ -3,7 +3,7 @@ use Rattle.base.specs.Words.{ℕ, _+_, cond, _&&_, ltb, List, [], _∷_, _++_, 
 use Rattle.log.specs.declared.Entry.{Entry}
 use Rattle.word.specs.{Stages.isIdle, Stages.atT1, Stages.atB2, declared.Stage.Stage}
 use Rattle.word.specs.declared.Stage.the-variants.{P1, T1, B1}
-use Rattle.queue.specs.{Step.stored, Step.steppedOn, Step.stageAfter, declared.Next.Next, declared.Stepped.Stepped}
+use Rattle.steps.specs.{Step.stored, Step.steppedOn, Step.stageAfter, declared.Next.Next, declared.Stepped.Stepped}
 use Rattle.runfile.specs.{declared.Call.Call, declared.Call.the-variants.Push, declared.Call.the-variants.Pop, declared.Call.the-variants.Take}
 use Rattle.runs.specs.Moment.{queueOf, Ended, Nothing, ends, ended, goneRound}
 use Rattle.runs.specs.State.{Queue, Process, Bench, State, queueAt, processAt}

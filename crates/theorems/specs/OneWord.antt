@@ -2,8 +2,8 @@
 use Rattle.base.specs.Words.{ℕ, _<_, true, List, length, take, _≡_}
 use Rattle.word.specs.{declared.Word.Word, declared.Stage.Stage}
 use Rattle.range.specs.Range.{inRange}
-use Rattle.queue.specs.{Step.stored, Step.steppedOn, declared.Stepped.Stepped, declared.PackedWord.PackedWord, declared.PackedStep.PackedStep}
-use Rattle.queue.specs.Packed.{packed, packedWord, unpacked, unpackedStep, StepPacked}
+use Rattle.steps.specs.{Step.stored, Step.steppedOn, declared.Stepped.Stepped, declared.PackedWord.PackedWord, declared.PackedStep.PackedStep}
+use Rattle.steps.specs.Packed.{packed, packedWord, unpacked, unpackedStep, StepPacked}
 use Rattle.desk.specs.Desk.{answerOf, AtDesk}
 use Rattle.runs.specs.Promise.{Ran, HandsBack}
 

@@ -2,7 +2,7 @@
 use Rattle.base.specs.Words.{ℕ, _<_, true, List, [], _∷_, length, getD, _⊎_, _≡_}
 use Rattle.word.specs.{declared.Stage.Stage, declared.Word.Word}
 use Rattle.range.specs.Range.{inRange}
-use Rattle.queue.specs.{Step.stored, Step.steppedOn, Step.stageAfter, declared.Next.Next, declared.Stepped.Stepped}
+use Rattle.steps.specs.{Step.stored, Step.steppedOn, Step.stageAfter, declared.Next.Next, declared.Stepped.Stepped}
 use Rattle.desk.specs.{Desk.answerOf, Desk.resultOf, Desk.AtDesk, declared.Answer.Answer}
 use Rattle.runs.specs.Moment.{queueOf, Ended, Nothing, ends, ended}
 use Rattle.runs.specs.{State.Process, State.State, State.queueAt, State.processAt, Turn.act}

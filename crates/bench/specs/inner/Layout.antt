@@ -10,10 +10,10 @@ use Rattle.base.specs.Lists.{listOf}
 use Rattle.log.specs.Decode.{logLength}
 use Rattle.log.specs.Encode.{entryBytes}
 use Rattle.log.specs.declared.Entry.{Entry}
-use Rattle.queue.specs.Step.{stored, inSixteen, steppedOn}
-use Rattle.queue.specs.Packed.{unpacked, unpackedStep, topOf}
-use Rattle.queue.specs.declared.PackedStep.{PackedStep}
-use Rattle.queue.specs.declared.PackedWord.{PackedWord}
+use Rattle.steps.specs.Step.{stored, inSixteen, steppedOn}
+use Rattle.steps.specs.Packed.{unpacked, unpackedStep, topOf}
+use Rattle.steps.specs.declared.PackedStep.{PackedStep}
+use Rattle.steps.specs.declared.PackedWord.{PackedWord}
 use Rattle.word.specs.inner.StepsLeft.{stepsLeft}
 use Rattle.word.specs.declared.Stage.{Stage}
 use Rattle.word.specs.declared.Stage.the-variants.{Idle}

@@ -8,8 +8,8 @@ use borrow.Author.Needs.{needs}
 use Rattle.word.specs.declared.Stage.{Stage}
 use Rattle.word.specs.declared.Stage.the-variants.{Idle, P1, P2, P3, T1, T2, T3, T4, B1, B2, B3, B4, B5, B6, B7}
 use Rattle.word.proofs.Stage.{the-type}
-use Rattle.queue.specs.Step.{loadedSlot}
-use Rattle.queue.specs.declared.Load.the-variants.{Nothing}
+use Rattle.steps.specs.Step.{loadedSlot}
+use Rattle.steps.specs.declared.Load.the-variants.{Nothing}
 use Rattle.queue.proofs.loaded_slot.Statement.{statement}
 use Rattle.queue.proofs.loaded_slot.Tie as tie
 

@@ -1,6 +1,6 @@
 -- `step_on` meets its contract.
 use borrow.Author.Needs.{needs}
-use Rattle.queue.proofs.PackedLaws.{on-three}
+use Rattle.steps.proofs.PackedLaws.{on-three}
 use Rattle.queue.proofs.step_on.Statement.{statement}
 use Rattle.queue.proofs.step_on.Tie as tie
 

@@ -1,8 +1,8 @@
 -- `step_packed` meets its contract.
 use mathlib.Core.Path.{_∙_, ap}
-use Rattle.queue.specs.Step.{stored}
-use Rattle.queue.specs.declared.Stepped.{Stepped}
-use Rattle.queue.proofs.PackedLaws.{packed-is}
+use Rattle.steps.specs.Step.{stored}
+use Rattle.steps.specs.declared.Stepped.{Stepped}
+use Rattle.steps.proofs.PackedLaws.{packed-is}
 use borrow.Author.Needs.{needs}
 use Rattle.queue.proofs.step_packed.Statement.{statement}
 use Rattle.queue.proofs.step_packed.Tie as tie

@@ -2,11 +2,11 @@
 use mathlib.Core.Path.{refl, ap, _∙_}
 use lib.ListN.{length}
 use Rattle.range.proofs.RangeLaws.{in-range}
-use Rattle.queue.specs.Step.{loaded, loadedSlot}
-use Rattle.queue.specs.Packed.{packed, packedWord, unpacked, unpackedStep}
-use Rattle.queue.specs.declared.Stepped.{Stepped}
-use Rattle.queue.proofs.StepLaws.{sixteen-in}
-use Rattle.queue.proofs.PackedLaws.{on-three}
+use Rattle.steps.specs.Step.{loaded, loadedSlot}
+use Rattle.steps.specs.Packed.{packed, packedWord, unpacked, unpackedStep}
+use Rattle.steps.specs.declared.Stepped.{Stepped}
+use Rattle.steps.proofs.StepLaws.{sixteen-in}
+use Rattle.steps.proofs.PackedLaws.{on-three}
 use Rattle.desk.specs.Desk.{answerOf}
 use Rattle.desk.proofs.DeskLaws.{at-desk}
 use Rattle.base.proofs.Settled.{one-value}

@@ -8,7 +8,7 @@ use Rattle.base.proofs.Cases.{never}
 use Rattle.log.specs.Numbers.{isTopNil}
 use Rattle.log.specs.declared.What.{What}
 use Rattle.log.specs.declared.What.the-variants.{Pushed, Full, BottomNode, BottomNil, TopNode, TopNil, TopLost}
-use Rattle.queue.specs.Step.{sameAge}
+use Rattle.steps.specs.Step.{sameAge}
 use Rattle.word.specs.declared.Word.{Word}
 
 module _ {A : Type 0} (P : A → Type 0) where

@@ -5,10 +5,10 @@ use mathlib.Core.Bool.{true, cond}
 use mathlib.Core.List.{List, [], _∷_, _++_, append-nil}
 use lib.ListN.{set}
 use Rattle.word.specs.Stages.{pastB2, firstLoaded, popsSlot}
-use Rattle.queue.specs.Step.{bottomTo, ageTo, loadedSlot, loaded, stored, rowOf}
+use Rattle.steps.specs.Step.{bottomTo, ageTo, loadedSlot, loaded, stored, rowOf}
 use Rattle.word.specs.declared.Stage.{Stage}
 use Rattle.word.specs.declared.Stage.the-variants.{Idle, P1, P2, P3, T1, T2, T3, T4, B1, B2, B3, B4, B5, B6, B7}
-use Rattle.queue.specs.declared.Stepped.{Stepped}
+use Rattle.steps.specs.declared.Stepped.{Stepped}
 use Rattle.word.specs.declared.Word.{Word}
 use Rattle.log.specs.declared.Entry.{Entry}
 use Rattle.runs.specs.Moment.{Ended, Nothing, ends}

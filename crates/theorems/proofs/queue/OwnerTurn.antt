@@ -17,11 +17,11 @@ use Rattle.log.specs.declared.Entry.{Entry}
 use Rattle.log.specs.declared.What.{What}
 use Rattle.log.specs.declared.What.the-variants.{Pushed, Full, BottomNode, BottomNil}
 use Rattle.word.specs.Stages.{pastB2, atB2}
-use Rattle.queue.specs.Step.{bottomTo, leaves as stays, stageAfter}
-use Rattle.queue.specs.declared.Next.the-variants as next
+use Rattle.steps.specs.Step.{bottomTo, leaves as stays, stageAfter}
+use Rattle.steps.specs.declared.Next.the-variants as next
 use Rattle.word.specs.declared.Stage.{Stage}
 use Rattle.word.specs.declared.Stage.the-variants.{Idle, P1, P2, P3, T1, T2, T3, T4, B1, B2, B3, B4, B5, B6, B7}
-use Rattle.queue.specs.declared.Stepped.{Stepped}
+use Rattle.steps.specs.declared.Stepped.{Stepped}
 use Rattle.base.proofs.Cases.{if-eq, if-lt, never}
 use Rattle.runfile.specs.declared.Call.{Call}
 use Rattle.runfile.specs.declared.Call.the-variants.{Push}

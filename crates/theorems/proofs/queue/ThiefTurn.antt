@@ -16,10 +16,10 @@ use Rattle.log.specs.declared.Entry.{Entry}
 use Rattle.log.specs.declared.What.{What}
 use Rattle.log.specs.declared.What.the-variants.{Pushed, TopNode, TopNil, TopLost}
 use Rattle.word.specs.Stages.{pastB2, firstLoaded, popsSlot, atT1}
-use Rattle.queue.specs.Step.{ageTo, stageAfter}
+use Rattle.steps.specs.Step.{ageTo, stageAfter}
 use Rattle.word.specs.declared.Stage.{Stage}
 use Rattle.word.specs.declared.Stage.the-variants.{Idle, P1, P2, P3, T1, T2, T3, T4, B1, B2, B3, B4, B5, B6, B7}
-use Rattle.queue.specs.declared.Stepped.{Stepped}
+use Rattle.steps.specs.declared.Stepped.{Stepped}
 use Rattle.runfile.specs.declared.Call.{Call}
 use Rattle.runs.specs.State.{Process}
 use Rattle.runs.specs.Moment.{queueOf, isTake, entry, takeMoment, ended, goneRound}

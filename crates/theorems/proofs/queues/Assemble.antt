@@ -8,8 +8,8 @@ use native.Mathlib.Omega.{arith}
 use lib.ListN.{getD, set}
 use Rattle.log.specs.declared.Entry.{Entry}
 use Rattle.word.specs.Stages.{pastB2}
-use Rattle.queue.specs.Step.{stored}
-use Rattle.queue.specs.declared.Stepped.{Stepped}
+use Rattle.steps.specs.Step.{stored}
+use Rattle.steps.specs.declared.Stepped.{Stepped}
 use Rattle.runs.specs.Moment.{queueOf, ended}
 use Rattle.runs.specs.State.{Process, Queue, State, fresh, nobody, queueAt, processAt}
 use Rattle.runs.specs.Turn.{processAfter, queueAfter, ending, acted}

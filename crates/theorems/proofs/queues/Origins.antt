@@ -13,9 +13,9 @@ use Rattle.log.specs.declared.What.{What}
 use Rattle.log.specs.declared.What.the-variants.{Pushed, Full, BottomNode, BottomNil, TopNode, TopNil, TopLost}
 use Rattle.word.specs.Stages.{isIdle}
 use Rattle.base.proofs.Cases.{either-way, if-set}
-use Rattle.queue.specs.Step.{stageAfter, loadedSlot, loaded}
-use Rattle.queue.specs.declared.Next.{Next}
-use Rattle.queue.specs.declared.Next.the-variants as next
+use Rattle.steps.specs.Step.{stageAfter, loadedSlot, loaded}
+use Rattle.steps.specs.declared.Next.{Next}
+use Rattle.steps.specs.declared.Next.the-variants as next
 use Rattle.runfile.specs.Check.{sum}
 use Rattle.runfile.specs.Encode.{CallInRange, InRanges}
 use Rattle.runfile.specs.File.{RunFile}

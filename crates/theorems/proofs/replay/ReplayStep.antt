@@ -14,10 +14,10 @@ use Rattle.range.specs.Range.{inRange}
 use Rattle.word.specs.inner.InRange.{StageIn}
 use Rattle.range.proofs.RangeLaws.{range-in}
 use Rattle.word.specs.Stages.{isIdle}
-use Rattle.queue.specs.Step.{rowOf, loadedSlot, loaded, stored, stageAfter}
+use Rattle.steps.specs.Step.{rowOf, loadedSlot, loaded, stored, stageAfter}
 use Rattle.word.specs.declared.Stage.{Stage}
 use Rattle.word.specs.declared.Stage.the-variants.{Idle}
-use Rattle.queue.specs.declared.Stepped.{Stepped}
+use Rattle.steps.specs.declared.Stepped.{Stepped}
 use Rattle.word.specs.declared.Word.{Word}
 use Rattle.runfile.specs.Encode.{InRanges}
 use Rattle.runfile.specs.File.{RunFile}

@@ -5,11 +5,11 @@ use mathlib.Core.Logic.{inl, inr}
 use mathlib.Core.List.{[], _∷_}
 use lib.ListN.{getD}
 use lib.Seq.{getD-set-same}
-use Rattle.queue.specs.Step.{stored, steppedOn}
+use Rattle.steps.specs.Step.{stored, steppedOn}
 use Rattle.desk.specs.Desk.{answerOf, resultOf}
-use Rattle.queue.specs.declared.Next.{Next}
-use Rattle.queue.specs.declared.Next.the-variants.{Going, Done, Node, Nil, Lost, Full}
-use Rattle.queue.specs.declared.Stepped.{Stepped}
+use Rattle.steps.specs.declared.Next.{Next}
+use Rattle.steps.specs.declared.Next.the-variants.{Going, Done, Node, Nil, Lost, Full}
+use Rattle.steps.specs.declared.Stepped.{Stepped}
 use Rattle.log.specs.declared.Entry.{Entry}
 use Rattle.base.proofs.Cases.{either-way}
 use Rattle.desk.proofs.DeskLaws.{row-done}

@@ -17,13 +17,13 @@ use Rattle.log.specs.declared.What.{What}
 use Rattle.log.specs.declared.What.the-variants.{Pushed, Full, BottomNode, BottomNil, TopNode, TopNil, TopLost}
 use Rattle.base.proofs.Cases.{either-way, never, ever, if-eq, if-lt, if-le, if-set}
 use Rattle.base.proofs.Bools.{or-l}
-use Rattle.queue.specs.Step.{loadedSlot, loaded, stageAfter}
-use Rattle.queue.specs.declared.Next.{Next}
-use Rattle.queue.specs.declared.Next.the-variants as next
+use Rattle.steps.specs.Step.{loadedSlot, loaded, stageAfter}
+use Rattle.steps.specs.declared.Next.{Next}
+use Rattle.steps.specs.declared.Next.the-variants as next
 use Rattle.word.specs.Stages.{rowNumber}
 use Rattle.word.specs.declared.Stage.{Stage}
 use Rattle.word.specs.declared.Stage.the-variants.{Idle, P1, P2, P3, T1, T2, T3, T4, B1, B2, B3, B4, B5, B6, B7}
-use Rattle.queue.specs.declared.Stepped.{Stepped}
+use Rattle.steps.specs.declared.Stepped.{Stepped}
 use Rattle.runs.specs.Moment.{queueOf, pushedNode, isTake}
 use Rattle.runs.specs.State.{Process, Queue, State, fresh, queueAt}
 use Rattle.runs.specs.Turn.{queueAfter, ending, acted, idle}

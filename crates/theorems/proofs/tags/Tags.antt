@@ -11,14 +11,14 @@ use lib.ListN.{length, getD, getD-replicate}
 use lib.Pow.{pow-pos}
 use borrow.Author.Tests.{eq-eqb, leb-true, le-leb}
 use Rattle.word.specs.Stages.{rowNumber, atT1}
-use Rattle.queue.specs.Step.{loadedSlot, loaded, sameAge, leaves, resets, rowOf, stageAfter}
+use Rattle.steps.specs.Step.{loadedSlot, loaded, sameAge, leaves, resets, rowOf, stageAfter}
 use Rattle.base.proofs.Cases.{either-way, never, ever, if-set}
 use Rattle.word.proofs.TagLaws.{after-resets, equal-tags}
-use Rattle.queue.specs.declared.Next.{Next}
-use Rattle.queue.specs.declared.Next.the-variants as next
+use Rattle.steps.specs.declared.Next.{Next}
+use Rattle.steps.specs.declared.Next.the-variants as next
 use Rattle.word.specs.declared.Stage.{Stage}
 use Rattle.word.specs.declared.Stage.the-variants.{Idle, P1, P2, P3, T1, T2, T3, T4, B1, B2, B3, B4, B5, B6, B7}
-use Rattle.queue.specs.declared.Stepped.{Stepped}
+use Rattle.steps.specs.declared.Stepped.{Stepped}
 use Rattle.word.specs.declared.Word.{Word}
 use Rattle.runfile.specs.Encode.{InRanges}
 use Rattle.runfile.specs.File.{RunFile}

@@ -7,8 +7,8 @@ use mathlib.Core.List.{List}
 use lib.ListN.{getD, take, drop}
 use Rattle.word.specs.declared.Word.{Word}
 use Rattle.runs.specs.Run.{tableRow}
-use Rattle.queue.specs.Packed.{unpacked}
-use Rattle.queue.specs.declared.PackedWord.{PackedWord}
+use Rattle.steps.specs.Packed.{unpacked}
+use Rattle.steps.specs.declared.PackedWord.{PackedWord}
 use Rattle.bench.specs.inner.Layout.{freshHeld, slotsIn}
 use Rattle.bench.proofs.LayoutLaws.{row-in}
 use Rattle.bench.proofs.TableLaws.{Filled, none-filled, row-filled, all-filled, part-slots, part-small}

@@ -1,6 +1,6 @@
 -- `rows::leaves` meets its contract.
 use mathlib.Core.Path.{refl}
-use Rattle.queue.proofs.PackedLaws.{left-as}
+use Rattle.steps.proofs.PackedLaws.{left-as}
 use borrow.Author.Needs.{needs}
 use Rattle.queue.proofs.rows.leaves.Statement.{statement}
 use Rattle.queue.proofs.rows.leaves.Tie as tie

@@ -1,6 +1,6 @@
 -- `rows::p2` meets its contract.
 use mathlib.Core.Path.{refl}
-use Rattle.queue.proofs.PackedLaws.{left-as}
+use Rattle.steps.proofs.PackedLaws.{left-as}
 use borrow.Author.Needs.{needs}
 use Rattle.queue.proofs.rows.p2.Statement.{statement}
 use Rattle.queue.proofs.rows.p2.Tie as tie

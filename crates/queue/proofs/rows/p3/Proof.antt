@@ -1,8 +1,8 @@
 -- `rows::p3` meets its contract.
 use Prim.Native.Nat.{_+_}
 use mathlib.Core.Path.{_∙_}
-use Rattle.queue.specs.declared.Next.the-variants.{Done}
-use Rattle.queue.proofs.PackedLaws.{bottom-as}
+use Rattle.steps.specs.declared.Next.the-variants.{Done}
+use Rattle.steps.proofs.PackedLaws.{bottom-as}
 use borrow.Author.Needs.{needs}
 use Rattle.queue.proofs.rows.p3.Statement.{statement}
 use Rattle.queue.proofs.rows.p3.Tie as tie

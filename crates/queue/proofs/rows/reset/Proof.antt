@@ -1,5 +1,5 @@
 -- `rows::reset` meets its contract.
-use Rattle.queue.proofs.PackedLaws.{reset-as}
+use Rattle.steps.proofs.PackedLaws.{reset-as}
 use borrow.Author.Needs.{needs}
 use Rattle.queue.proofs.rows.reset.Statement.{statement}
 use Rattle.queue.proofs.rows.reset.Tie as tie

@@ -1,5 +1,5 @@
 -- `rows::same_age` meets its contract.
-use Rattle.queue.proofs.PackedLaws.{packed-same}
+use Rattle.steps.proofs.PackedLaws.{packed-same}
 use borrow.Author.Needs.{needs}
 use Rattle.queue.proofs.rows.same_age.Statement.{statement}
 use Rattle.queue.proofs.rows.same_age.Tie as tie

@@ -1,8 +1,8 @@
 -- `rows::t4` meets its contract.
 use Prim.Native.Nat.{_+_}
 use mathlib.Core.Path.{sym, _∙_}
-use Rattle.queue.specs.declared.Next.the-variants.{Node}
-use Rattle.queue.proofs.PackedLaws.{top-as}
+use Rattle.steps.specs.declared.Next.the-variants.{Node}
+use Rattle.steps.proofs.PackedLaws.{top-as}
 use borrow.Author.Needs.{needs}
 use Rattle.queue.proofs.rows.t4.Statement.{statement}
 use Rattle.queue.proofs.rows.t4.Tie as tie

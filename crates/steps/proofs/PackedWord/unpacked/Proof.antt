@@ -1,7 +1,7 @@
 -- `PackedWord::unpacked` meets its contract.
 use borrow.Author.Needs.{needs}
-use Rattle.queue.proofs.PackedWord.unpacked.Statement.{statement}
-use Rattle.queue.proofs.PackedWord.unpacked.Tie as tie
+use Rattle.steps.proofs.PackedWord.unpacked.Statement.{statement}
+use Rattle.steps.proofs.PackedWord.unpacked.Tie as tie
 
 returns : tie.Need-returns
 returns c = rw (c .tag .ensures, c .before .top .ensures)

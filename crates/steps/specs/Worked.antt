@@ -1,9 +1,9 @@
 -- The table at its edges, computed: the places where document 01 says that errors tempt.
 use Rattle.base.specs.Words.{ℕ, List, [], _∷_, map, _≡_, refl}
-use Rattle.queue.specs.{Step.leaves, Step.resets, Step.rowOf, Step.inSixteen, Step.loadedSlot, declared.Stepped.Stepped}
-use Rattle.queue.specs.Packed.{packed, topOf, tagOf, nextAge, unpacked}
-use Rattle.queue.specs.declared.Next.the-variants.{Going, Node, Nil, Lost, Full}
-use Rattle.queue.specs.declared.Load.the-variants as Load
+use Rattle.steps.specs.{Step.leaves, Step.resets, Step.rowOf, Step.inSixteen, Step.loadedSlot, declared.Stepped.Stepped}
+use Rattle.steps.specs.Packed.{packed, topOf, tagOf, nextAge, unpacked}
+use Rattle.steps.specs.declared.Next.the-variants.{Going, Node, Nil, Lost, Full}
+use Rattle.steps.specs.declared.Load.the-variants as Load
 use Rattle.word.specs.{Worked.word, declared.Word.Word, declared.Stage.Stage}
 use Rattle.word.specs.declared.Stage.the-variants.{P1, P2, P3, T2, T3, T4, B3, B4, B5, B6, B7}
 

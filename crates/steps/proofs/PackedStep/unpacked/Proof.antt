@@ -1,7 +1,7 @@
 -- `PackedStep::unpacked` meets its contract.
 use borrow.Author.Needs.{needs}
-use Rattle.queue.proofs.PackedStep.unpacked.Statement.{statement}
-use Rattle.queue.proofs.PackedStep.unpacked.Tie as tie
+use Rattle.steps.proofs.PackedStep.unpacked.Statement.{statement}
+use Rattle.steps.proofs.PackedStep.unpacked.Tie as tie
 
 returns : tie.Need-returns
 returns c = rw (c .unpacked .ensures)

@@ -1,7 +1,7 @@
 -- `PackedWord::of` meets its contract.
 use borrow.Author.Needs.{needs}
-use Rattle.queue.proofs.PackedWord.of.Statement.{statement}
-use Rattle.queue.proofs.PackedWord.of.Tie as tie
+use Rattle.steps.proofs.PackedWord.of.Statement.{statement}
+use Rattle.steps.proofs.PackedWord.of.Tie as tie
 
 returns : tie.Need-returns
 returns c = rw (c .of .ensures)

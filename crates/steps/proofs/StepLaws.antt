@@ -12,13 +12,13 @@ use Rattle.word.proofs.TagLaws.{next-below}
 use Rattle.word.specs.inner.InRange.{WordIn, StageIn, InRange}
 use Rattle.base.proofs.Cases.{either-way}
 use Rattle.word.specs.inner.StepsLeft.{stepsLeft}
-use Rattle.queue.specs.Step.{leaves, resets, sameAge, rowOf, loadedSlot, stored, stageAfter, resultOf, inSixteen, steppedOn, StepOn}
-use Rattle.queue.proofs.Below.{LoadsBelow, StoresBelow}
+use Rattle.steps.specs.Step.{leaves, resets, sameAge, rowOf, loadedSlot, stored, stageAfter, resultOf, inSixteen, steppedOn, StepOn}
+use Rattle.steps.proofs.Below.{LoadsBelow, StoresBelow}
 use Rattle.word.specs.declared.Word.{Word}
 use Rattle.word.specs.declared.Stage.{Stage}
 use Rattle.word.specs.declared.Stage.the-variants.{Idle, P1, P2, P3, T1, T2, T3, T4, B1, B2, B3, B4, B5, B6, B7}
-use Rattle.queue.specs.declared.Next.the-variants.{Going, Nil, Lost}
-use Rattle.queue.specs.declared.Stepped.{Stepped}
+use Rattle.steps.specs.declared.Next.the-variants.{Going, Nil, Lost}
+use Rattle.steps.specs.declared.Stepped.{Stepped}
 
 abbrev Lower : ℕ → Stepped → Type 0
 Lower n r = stepsLeft (stageAfter (r .next)) ≤ n

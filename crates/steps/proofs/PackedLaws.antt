@@ -10,13 +10,13 @@ use borrow.Author.Tests.{eqb-true, eqb-false, eq-eqb}
 use Rattle.word.specs.Tag.{nextTag}
 use Rattle.word.specs.declared.Word.{Word}
 use Rattle.word.specs.declared.Stage.{Stage}
-use Rattle.queue.specs.Step.{bottomTo, ageTo, leaves, resets, stored, inSixteen, steppedOn, StepOn}
-use Rattle.queue.specs.Packed.{packed, topOf, tagOf, nextAge, packedWord, unpacked, unpackedStep, StepPacked}
-use Rattle.queue.specs.declared.Next.{Next}
-use Rattle.queue.specs.declared.Stepped.{Stepped}
-use Rattle.queue.specs.declared.PackedWord.{PackedWord}
-use Rattle.queue.specs.declared.PackedStep.{PackedStep}
-use Rattle.queue.proofs.StepLaws.{step-is}
+use Rattle.steps.specs.Step.{bottomTo, ageTo, leaves, resets, stored, inSixteen, steppedOn, StepOn}
+use Rattle.steps.specs.Packed.{packed, topOf, tagOf, nextAge, packedWord, unpacked, unpackedStep, StepPacked}
+use Rattle.steps.specs.declared.Next.{Next}
+use Rattle.steps.specs.declared.Stepped.{Stepped}
+use Rattle.steps.specs.declared.PackedWord.{PackedWord}
+use Rattle.steps.specs.declared.PackedStep.{PackedStep}
+use Rattle.steps.proofs.StepLaws.{step-is}
 
 parts : (a : ℕ) → (tagOf a * 65536 + topOf a ≡ a) × (topOf a < 65536)
 parts a = (omega (arith, div-add-mod' a 65536), mod-lt a {m = 65536} (omega arith))

@@ -2,10 +2,10 @@
 use Rattle.base.specs.Words.{ℕ, _+_, _-_, _%_, Bool, true, false, cond, _&&_, ltb, leb, eqb, List, [], _∷_, getD, set, _≡_}
 use Rattle.word.specs.{Tag.nextTag, Stages.rowNumber, Stages.firstLoaded, declared.Word.Word, declared.Stage.Stage}
 use Rattle.word.specs.declared.Stage.the-variants.{Idle, P1, P2, P3, T1, T2, T3, T4, B1, B2, B3, B4, B5, B6, B7}
-use Rattle.queue.specs.{declared.Next.Next, declared.Load.Load, declared.Store.Store, declared.Stepped.Stepped}
-use Rattle.queue.specs.declared.Next.the-variants.{Going, Done, Node, Nil, Lost, Full}
-use Rattle.queue.specs.declared.Load.the-variants as load
-use Rattle.queue.specs.declared.Store.the-variants as store
+use Rattle.steps.specs.{declared.Next.Next, declared.Load.Load, declared.Store.Store, declared.Stepped.Stepped}
+use Rattle.steps.specs.declared.Next.the-variants.{Going, Done, Node, Nil, Lost, Full}
+use Rattle.steps.specs.declared.Load.the-variants as load
+use Rattle.steps.specs.declared.Store.the-variants as store
 
 abbrev pub bottomTo : Word → ℕ → Word
 bottomTo w b = record { bottom = b; top = w .top; tag = w .tag }

@@ -1,7 +1,7 @@
 -- `PackedAge::next_age` meets its contract.
 use borrow.Author.Needs.{needs}
-use Rattle.queue.proofs.PackedAge.next_age.Statement.{statement}
-use Rattle.queue.proofs.PackedAge.next_age.Tie as tie
+use Rattle.steps.proofs.PackedAge.next_age.Statement.{statement}
+use Rattle.steps.proofs.PackedAge.next_age.Tie as tie
 
 returns : tie.Need-returns
 returns c = rw (c .of .ensures, c .before .next-tag .ensures, c .before .before .tag .ensures)

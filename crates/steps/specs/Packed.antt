@@ -1,8 +1,8 @@
 -- Top and tag in one word of 32 bits, the tag in the upper sixteen; and what the step on such a word promises.
 use Rattle.base.specs.Words.{ℕ, _+_, _*_, _/_, _%_, List, _≡_}
 use Rattle.word.specs.{Tag.nextTag, declared.Word.Word, declared.Stage.Stage}
-use Rattle.queue.specs.{declared.Stepped.Stepped, declared.PackedWord.PackedWord, declared.PackedStep.PackedStep}
-use Rattle.queue.specs.Step.{inSixteen, steppedOn, StepOn}
+use Rattle.steps.specs.{declared.Stepped.Stepped, declared.PackedWord.PackedWord, declared.PackedStep.PackedStep}
+use Rattle.steps.specs.Step.{inSixteen, steppedOn, StepOn}
 
 abbrev pub packed : ℕ → ℕ → ℕ
 packed t g = g * 65536 + t

@@ -1,8 +1,8 @@
 -- `tag::next_tag` meets its contract.
 use borrow.Author.Needs.{needs}
 use Rattle.word.proofs.TagLaws.{tags-pos, next-narrow, next-wide}
-use Rattle.queue.proofs.tag.next_tag.Statement.{statement}
-use Rattle.queue.proofs.tag.next_tag.Tie as tie
+use Rattle.steps.proofs.tag.next_tag.Statement.{statement}
+use Rattle.steps.proofs.tag.next_tag.Tie as tie
 
 rem-result : tie.Need-rem-result
 rem-result c = search (needs, tags-pos)

@@ -1,6 +1,6 @@
 // The age in one word of 32 bits: the tag in the upper sixteen, the top in the lower.
 ghost use mathlib.Core.Path.{_≡_};
-ghost use Rattle.queue.specs.Packed.{packed, topOf, tagOf, nextAge, packedWord, unpacked as unpackedOf, unpackedStep};
+ghost use Rattle.steps.specs.Packed.{packed, topOf, tagOf, nextAge, packedWord, unpacked as unpackedOf, unpackedStep};
 use crate::PackedAge;
 use crate::PackedStep;
 use crate::PackedWord;
@@ -62,7 +62,7 @@ impl PackedWord {
 }
 
 impl PackedStep {
-    pub(crate) fn unpacked(self) -> Stepped
+    pub fn unpacked(self) -> Stepped
         ensures { λ r. ⌜ r ≡ unpackedStep self ⌝ }
     {
         let word = self.word;
