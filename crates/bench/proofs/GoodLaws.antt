@@ -26,7 +26,7 @@ use Rattle.bench.proofs.FinishLaws.{finished-gives}
 use Rattle.bench.proofs.LayoutLaws.{row-in}
 use Rattle.runs.proofs.Induction.{play-keeps, closed-keeps}
 use Rattle.bench.specs.declared.Bench.{Bench as HeldBench}
-use Rattle.bench.specs.inner.Layout.{benchIn, slotsOf, slotsIn, stateIn, sizesIn, Whole, Becomes, ToWalk, ToClose}
+use Rattle.bench.specs.inner.Layout.{benchIn, Whole, slotsOf, slotsIn, stateIn, sizesIn, Becomes, ToWalk, ToClose}
 use Rattle.bench.specs.inner.Walk.{walked}
 use Rattle.word.specs.inner.StepsLeft.{stepsLeft}
 use Rattle.runs.specs.inner.Counted.{Counted}

@@ -21,11 +21,12 @@ use Rattle.steps.specs.declared.PackedStep.{PackedStep}
 use Rattle.steps.specs.declared.PackedWord.{PackedWord}
 use Rattle.steps.specs.declared.Store.{Store}
 use Rattle.steps.specs.declared.Store.the-variants as store
-use Rattle.bench.specs.inner.Layout.{processIn, freshHeld, idleHeld, queueIn, recordIn, benchIn, slotsOf, slotsIn, StepsIn, putEntries}
+use Rattle.records.specs.inner.Records.{processIn}
+use Rattle.bench.specs.inner.Layout.{freshHeld, idleHeld, queueIn, recordIn, benchIn, slotsOf, slotsIn, StepsIn, putEntries}
 use Rattle.runs.specs.State.{Process, Queue, fresh, nobody, queueAt, processAt}
 use Rattle.runs.specs.inner.Counted.{Counted}
 use Rattle.bench.specs.declared.Bench.{Bench as HeldBench}
-use Rattle.bench.specs.declared.Process.{Process as HeldProcess}
+use Rattle.records.specs.declared.Process.{Process as HeldProcess}
 
 -- a list with a part put in its place
 module _ (xs ys : List ℕ) (a k : ℕ) (h : a + k ≤ length xs) (e : length ys ≡ k) where

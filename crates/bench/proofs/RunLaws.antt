@@ -16,7 +16,7 @@ use Rattle.log.specs.declared.Entry.{Entry}
 use Rattle.word.specs.Stages.{isIdle}
 use Rattle.word.specs.inner.StepsLeft.{stepsLeft}
 use Rattle.runfile.specs.declared.Call.{Call}
-use Rattle.bench.specs.inner.Layout.{benchIn, stateIn, Whole, putEntries, Becomes}
+use Rattle.bench.specs.inner.Layout.{benchIn, Whole, stateIn, putEntries, Becomes}
 use Rattle.bench.specs.inner.Walk.{walkedOne, walked}
 use Rattle.runs.specs.inner.Counted.{Counted}
 use Rattle.runs.specs.inner.Left.{total}

@@ -25,12 +25,13 @@ use Rattle.runs.specs.State.{Process, Queue, State, queueAt, processAt}
 use Rattle.runs.specs.Turn.{ready, queueAfter, processAfter, entriesIn, benchAfter, act, idle}
 use Rattle.runs.specs.inner.Sound.{Sizes, Fit, processes, AllIn, Placed, Sound}
 use Rattle.runs.proofs.Sound.{turning-placed}
-use Rattle.bench.specs.inner.Layout.{processIn, freshHeld, idleHeld, queueIn, recordIn, benchIn, slotsIn, stateIn, Whole, StepsIn, putEntries, Becomes, Tells}
+use Rattle.records.specs.inner.Records.{processIn}
+use Rattle.bench.specs.inner.Layout.{freshHeld, idleHeld, queueIn, recordIn, benchIn, Whole, slotsIn, stateIn, StepsIn, putEntries, Becomes, Tells}
 use Rattle.bench.specs.inner.Walk.{walking, walkedOne}
 use Rattle.bench.proofs.LayoutLaws.{queue-is, process-is, Put, put-set, put-none, Changes, queues-changed, processes-changed}
 use Rattle.bench.proofs.WalkLaws.{waited, with-steps}
 use Rattle.bench.specs.declared.Bench.{Bench as HeldBench}
-use Rattle.bench.specs.declared.Process.{Process as HeldProcess}
+use Rattle.records.specs.declared.Process.{Process as HeldProcess}
 use Rattle.bench.specs.declared.turn.Told.{Told}
 
 -- a reset ends its call

@@ -12,14 +12,13 @@ mod moment; // what a step ends, and its moment
 mod start; // eight fresh queues, and each process with its share of the calls
 mod loops; // the schedule and the closing
 mod table; // the final table
-mod turn; // one step of a run
+mod turn; // one step of a run, through the step of the queue
 
 use log::Entry;
-use runfile::Call;
+use records::Process;
 use runfile::Reading;
 use runfile::Shape;
 use steps::PackedWord;
-use word::Stage;
 
 // The rounds of the closing at most: eight calls are half-done.
 const CLOSING_ROUNDS: u8 = 8;
@@ -34,18 +33,6 @@ const ALL_SLOTS: usize = 8 * MOST_SLOTS;
 const TABLE_ROW: usize = 3 + MOST_SLOTS;
 
 pub const TABLE_SIZE: usize = 8 * TABLE_ROW;
-
-// A process: where it stands in its call, the call, which call of the file is its next and where its script stops; and of the
-// call its start, its step B2, and the resets that its queue had at T1.
-pub struct Process {
-    pub stage: Stage,
-    pub call: Call,
-    pub next: u16,
-    pub stop: u16,
-    pub start: u16,
-    pub b2: u16,
-    pub resets_at_t1: u16,
-}
 
 // The state of a run, but for the slots, which lie in an array of their own, and the log, which lies in the buffer.
 pub struct Bench {

@@ -10,13 +10,13 @@ ghost use Rattle.bench.specs.inner.Layout.{processAtIn, stateIn, Becomes
 ghost use Rattle.bench.specs.inner.Walk.{walked};
 use crate::Bench;
 use crate::CLOSING_ROUNDS;
-use crate::Process;
-use crate::moment::queue_of;
-use crate::turn::if_so;
-use crate::turn::process_after;
-use crate::turn::ready;
 use crate::turn::step_slots;
 use crate::turn::tell;
+use records::Process;
+use records::if_so;
+use records::process_after;
+use records::queue_of;
+use records::ready;
 use runfile::Shape;
 use word::Stage;
 

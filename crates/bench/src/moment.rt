@@ -1,26 +1,17 @@
 // The entry of a finished call, with its moment: document 01, "The log".
 ghost use mathlib.Core.Path.{_≡_};
 ghost use Prim.Native.Nat.{_≤_};
-ghost use Rattle.bench.specs.inner.Layout.{processIn, endedIn};
-ghost use Rattle.runs.specs.Moment.{queueOf, pushedNode, isTake, entry as entryOf, nilMoment, takeMoment, nodeEntry, nilEntry, ended as endedOf, goneRound};
+ghost use Rattle.records.specs.inner.Records.{processIn};
+ghost use Rattle.bench.specs.inner.Layout.{endedIn};
+ghost use Rattle.runs.specs.Moment.{pushedNode, entry as entryOf, nilMoment, takeMoment, nodeEntry, nilEntry, ended as endedOf};
 use crate::Ended;
-use crate::Process;
 use log::Entry;
 use log::What;
+use records::Process;
+use records::is_take;
+use records::queue_of;
 use runfile::Call;
 use steps::Next;
-
-// The queue of the call of process p, its record being of.
-pub(crate) fn queue_of(p: u8, of: Process) -> u8
-    ensures { λ r. ⌜ r ≡ queueOf p (of .call) ⌝ }
-{
-    let call = of.call;
-    match call {
-        Call::Push(_) => p,
-        Call::Pop => p,
-        Call::Take(q) => q,
-    }
-}
 
 fn pushed_node(call: Call) -> u16
     ensures { λ r. ⌜ r ≡ pushedNode call ⌝ }
@@ -29,16 +20,6 @@ fn pushed_node(call: Call) -> u16
         Call::Push(node) => node,
         Call::Pop => 0,
         Call::Take(_) => 0,
-    }
-}
-
-fn is_take(call: Call) -> bool
-    ensures { λ r. ⌜ r ≡ isTake call ⌝ }
-{
-    match call {
-        Call::Push(_) => false,
-        Call::Pop => false,
-        Call::Take(_) => true,
     }
 }
 
@@ -124,26 +105,5 @@ pub(crate) fn ended(p: u8, n: u16, of: Process, owner: Process, t: u16, next: Ne
         Next::Nil => Ended::Call(nil_entry(p, n, of)),
         Next::Lost => Ended::Call(entry(p, n, of, What::TopLost, 0, log::NO_MOMENT)),
         Next::Full => Ended::Call(entry(p, n, of, What::Full, node, log::NO_MOMENT)),
-    }
-}
-
-// How many gone-round takes a step is: a successful T4 whose queue was reset since its T1.
-pub(crate) fn gone_round(of: Process, resets: u16, next: Next) -> u16
-    ensures { λ r. ⌜ r ≡ goneRound (processIn of) resets next ⌝ }
-{
-    let call = of.call;
-    match next {
-        Next::Going(_) => 0,
-        Next::Done => 0,
-        Next::Node(_) => {
-            if is_take(call) & (of.resets_at_t1 != resets) {
-                1
-            } else {
-                0
-            }
-        }
-        Next::Nil => 0,
-        Next::Lost => 0,
-        Next::Full => 0,
     }
 }

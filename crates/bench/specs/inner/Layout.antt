@@ -31,20 +31,9 @@ use Rattle.runs.specs.Turn.{entriesIn}
 use Rattle.bench.specs.declared.Bench.{Bench as HeldBench}
 use Rattle.bench.specs.declared.Ended.{Ended as HeldEnded}
 use Rattle.bench.specs.declared.Ended.the-variants as held
-use Rattle.bench.specs.declared.Process.{Process as HeldProcess}
+use Rattle.records.specs.inner.Records.{processIn}
+use Rattle.records.specs.declared.Process.{Process as HeldProcess}
 use Rattle.bench.specs.declared.turn.Told.{Told}
-
--- what the program's structs stand for
-abbrev pub processIn : HeldProcess → Process
-processIn r = record {
-  stage = r .stage;
-  call = r .call;
-  next = r .next;
-  stop = r .stop;
-  start = r .start;
-  b2 = r .b2;
-  resetsAtT1 = r .«resets_at_t1»;
-}
 
 -- what the program's arrays have past their end
 abbrev pub freshHeld : PackedWord

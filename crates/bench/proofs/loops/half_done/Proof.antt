@@ -8,7 +8,7 @@ use lib.ListN.{length, getD, drop}
 use Rattle.base.specs.Lists.{listOf}
 use Rattle.base.proofs.Lists.{listOf-length, listOf-getD}
 use Rattle.runs.specs.State.{Process, nobody}
-use Rattle.bench.specs.declared.Process.{Process as HeldProcess}
+use Rattle.records.specs.declared.Process.{Process as HeldProcess}
 use Rattle.bench.specs.inner.Layout.{idleHeld, processAtIn}
 use Rattle.word.specs.Stages.{isIdle}
 use Rattle.runs.specs.inner.Half.{bit, halfDone}

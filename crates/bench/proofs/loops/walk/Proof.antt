@@ -12,7 +12,8 @@ use Rattle.runs.proofs.TurnLaws.{calls-in, entries-few, gone-most}
 use Rattle.runfile.specs.File.{firstCalls}
 use Rattle.runfile.specs.declared.Call.{Call}
 use Rattle.runfile.specs.declared.Shape.{Shape}
-use Rattle.bench.specs.inner.Layout.{processIn, recordIn, stateIn, sizesIn, Becomes}
+use Rattle.records.specs.inner.Records.{processIn}
+use Rattle.bench.specs.inner.Layout.{recordIn, stateIn, sizesIn, Becomes}
 use Rattle.bench.specs.inner.Walk.{walkedOne}
 use Rattle.bench.specs.declared.Bench.{Bench}
 use Rattle.bench.proofs.LayoutLaws.{held-resets, held-b2}

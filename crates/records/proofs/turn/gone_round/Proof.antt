@@ -1,7 +1,7 @@
 -- `moment::gone_round` meets its contract.
 use borrow.Author.Needs.{needs}
-use Rattle.bench.proofs.moment.gone_round.Statement.{statement}
-use Rattle.bench.proofs.moment.gone_round.Tie as tie
+use Rattle.records.proofs.turn.gone_round.Statement.{statement}
+use Rattle.records.proofs.turn.gone_round.Tie as tie
 
 returns-3 : tie.Need-returns-3
 returns-3 c = rw (c .before .before .before .enum-told3 .given .1, ← c .before .before .is-take .ensures, c .if1 .taken)

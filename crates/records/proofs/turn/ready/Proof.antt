@@ -6,8 +6,8 @@ use borrow.Author.Needs.{needs}
 use lib.Dec.{ltb}
 use Rattle.base.proofs.Cases.{never, ever}
 use Rattle.runs.proofs.TurnLaws.{begins}
-use Rattle.bench.proofs.turn.ready.Statement.{statement}
-use Rattle.bench.proofs.turn.ready.Tie as tie
+use Rattle.records.proofs.turn.ready.Statement.{statement}
+use Rattle.records.proofs.turn.ready.Tie as tie
 
 -- what the test says, taken and left
 taken : (a closing : Bool) → (a && not closing) ≡ true → (a ≡ true) × (closing ≡ false)

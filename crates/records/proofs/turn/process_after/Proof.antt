@@ -1,7 +1,7 @@
 -- `turn::process_after` meets its contract.
 use borrow.Author.Needs.{needs}
-use Rattle.bench.proofs.turn.process_after.Statement.{statement}
-use Rattle.bench.proofs.turn.process_after.Tie as tie
+use Rattle.records.proofs.turn.process_after.Statement.{statement}
+use Rattle.records.proofs.turn.process_after.Tie as tie
 
 returns : tie.Need-returns
 returns c = rw (c .if-so2 .ensures, c .before .at-t1 .ensures, c .before .before .if-so .ensures, c .before .before .before .at-b2 .ensures, c .before .before .before .before .stage-after .ensures)

@@ -1,7 +1,7 @@
 -- `turn::first_stage` meets its contract.
 use borrow.Author.Needs.{needs}
-use Rattle.bench.proofs.turn.first_stage.Statement.{statement}
-use Rattle.bench.proofs.turn.first_stage.Tie as tie
+use Rattle.records.proofs.turn.first_stage.Statement.{statement}
+use Rattle.records.proofs.turn.first_stage.Tie as tie
 
 pub first-stage-spec : {M : Type 1} → statement M
 first-stage-spec =

@@ -1,7 +1,7 @@
 -- `turn::begun` meets its contract.
 use borrow.Author.Needs.{needs}
-use Rattle.bench.proofs.turn.begun.Statement.{statement}
-use Rattle.bench.proofs.turn.begun.Tie as tie
+use Rattle.records.proofs.turn.begun.Statement.{statement}
+use Rattle.records.proofs.turn.begun.Tie as tie
 
 returns : tie.Need-returns
 returns c = rw (c .before .first-stage .ensures)

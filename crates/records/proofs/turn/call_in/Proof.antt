@@ -2,8 +2,8 @@
 use mathlib.Core.Path.{sym, _∙_}
 use borrow.Author.Needs.{needs}
 use Rattle.runs.proofs.TurnLaws.{call-there, past-calls}
-use Rattle.bench.proofs.turn.call_in.Statement.{statement}
-use Rattle.bench.proofs.turn.call_in.Tie as tie
+use Rattle.records.proofs.turn.call_in.Statement.{statement}
+use Rattle.records.proofs.turn.call_in.Tie as tie
 
 returns : tie.Need-returns
 returns c =

@@ -1,0 +1,2 @@
+-- What the public functions promise settles their answers.
+pub mod Settled
