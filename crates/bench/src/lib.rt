@@ -120,7 +120,7 @@ pub fn run_len(
 ) -> usize
     ensures { λ r. ⌜ Ran (now (file .entry)) (now (buffer .entry)) r (now (buffer .exit)) (now (report .exit)) (now (table .exit)) ⌝ }
 {
-    let reading = runfile::read(file);
+    let reading = reader::read(file);
     match reading {
         Reading::Refused(number) => refuse(number, report, table),
         Reading::Good(shape) => run_good(file, shape, buffer, report, table),

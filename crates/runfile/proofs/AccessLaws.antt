@@ -1,4 +1,4 @@
--- What the reader gives access to in a good file is what the record has.
+-- What the accessors give of a good file is what the record has.
 use mathlib.Core.Path.{_≡_, sym, ap, _∙_, subst}
 use mathlib.Core.List.{List, [], _∷_}
 use Prim.Native.Nat.{ℕ, zero, suc, _+_, _<_, _≤_}

@@ -1,9 +1,7 @@
--- Chains of tests, parts of some bytes, the calls of a file, and the table of marks, as loops take them.
+-- Chains of tests, and the calls of a file.
 pub mod CheckLaws
-pub mod PartLaws
 pub mod CallLaws
-pub mod MarkLaws
--- What number 0 says of a file, test by test, both ways; the reader's answer and the file.
+-- What number 0 says of a file, test by test, both ways; what the reader's answer says of it.
 pub mod GoodLaws
 pub mod ReadingLaws
 pub mod NumberLaws

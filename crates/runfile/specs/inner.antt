@@ -1,3 +1,2 @@
 -- Terms of the code: a reader may skip them.
 pub mod Counts
-pub mod Marks

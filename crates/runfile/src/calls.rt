@@ -1,11 +1,9 @@
-// Section 3's calls: each by its code and argument, and the first that is wrong.
+// Section 3's calls, each by its code and argument.
 ghost use mathlib.Core.Path.{_≡_};
 ghost use Prim.Native.Nat.{_+_, _≤_};
 ghost use lib.ListN.{length};
 ghost use Rattle.base.specs.Bytes.{byteAt, numberAt};
-ghost use Rattle.runfile.specs.Check.{firstOf};
-ghost use Rattle.runfile.specs.File.{callPlace, callOf, codedAt, callAt, firstCalls, wrongAt};
-ghost use Rattle.runfile.specs.inner.Marks.{Marks};
+ghost use Rattle.runfile.specs.File.{callPlace, callOf, codedAt, callAt};
 use crate::Call;
 use crate::Coded;
 use crate::places::call_place;
@@ -13,8 +11,6 @@ use base::byte_at;
 use base::joined;
 use base::number_at;
 use base::u8_to_u16;
-use marks::MARK_BYTES;
-use marks::mark;
 
 // The codes of a call.
 const PUSH: u8 = 1;
@@ -30,7 +26,7 @@ struct CallBytes {
 }
 
 // What a code and its argument say.
-fn call_of(processes: u8, code: u8, argument: u16) -> Coded
+pub fn call_of(processes: u8, code: u8, argument: u16) -> Coded
     ensures { λ r. ⌜ r ≡ callOf processes code argument ⌝ }
 {
     let queues = u8_to_u16(processes);
@@ -89,15 +85,6 @@ fn coded_at(file: &[u8], processes: u8, k: u16) -> Coded
     call_of(processes, bytes.code, bytes.argument)
 }
 
-// The same, where they stand in the file.
-fn coded_within(file: &[u8], processes: u8, k: u16) -> Coded
-    requires { ⌜ callPlace processes (k + 1) ≤ length (now file) ⌝ }
-    ensures { λ r. ⌜ r ≡ codedAt (now (file .entry)) processes k ⌝ }
-{
-    let bytes = bytes_within(file, call_place(processes, k));
-    call_of(processes, bytes.code, bytes.argument)
-}
-
 // Call k of the file; Pop where its bytes say none, which is so in no good file.
 pub fn call_at(file: &[u8], processes: u8, k: u16) -> Call
     ensures { λ r. ⌜ r ≡ callAt (now (file .entry)) processes k ⌝ }
@@ -107,39 +94,4 @@ pub fn call_at(file: &[u8], processes: u8, k: u16) -> Call
         Coded::Right(call) => call,
         Coded::Wrong(_) => Call::Pop,
     }
-}
-
-// The number that refuses call k, 0 for none: then the table stands for one call more.
-fn wrong_call(file: &[u8], processes: u8, k: u16, marks: &mut [u8; MARK_BYTES]) -> u8
-    requires { ⌜ Marks (now marks) (firstCalls (now file) processes k) ⌝ }
-    requires { ⌜ callPlace processes (k + 1) ≤ length (now file) ⌝ }
-    ensures { λ r. ⌜ r ≡ wrongAt (now (file .entry)) processes k ⌝ }
-    ensures { λ r. ⌜ (r ≡ 0 → Marks (now (marks .exit)) (firstCalls (now (file .entry)) processes (k + 1))) ⌝ }
-{
-    let coded = coded_within(file, processes, k);
-    match coded {
-        Coded::Right(call) => match call {
-            Call::Push(node) => if mark(marks, node) { 5 } else { 0 },
-            Call::Pop => 0,
-            Call::Take(_) => 0,
-        },
-        Coded::Wrong(number) => number,
-    }
-}
-
-// The number that refuses the first wrong call, 0 where there is none.
-pub(crate) fn first_wrong(file: &[u8], processes: u8, calls: u16) -> u8
-    requires { ⌜ callPlace processes calls ≤ length (now file) ⌝ }
-    ensures { λ r. ⌜ r ≡ firstOf (wrongAt (now (file .entry)) processes) calls ⌝ }
-{
-    let mut marks = [0u8; MARK_BYTES];
-    let mut k: u16 = 0;
-    while k < calls {
-        let number = wrong_call(file, processes, k, &mut marks);
-        if number != 0 {
-            return number;
-        }
-        k = k + 1;
-    }
-    0
 }

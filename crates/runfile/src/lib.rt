@@ -1,13 +1,18 @@
-// The run file of document 01: refused by its number, or good, and then read in place.
-ghost use Rattle.runfile.specs.File.{Reads};
+// The run file of document 01: what its bytes say, read in place. What refuses a file is tested in crate reader.
 
 mod calls; // section 3's calls, each by its code and argument
 mod places; // where the bytes stand
-mod sections; // what refuses a section, and a file
 
 pub use crate::calls::call_at;
+pub use crate::calls::call_of;
+pub use crate::places::PROCESSES_PLACE;
+pub use crate::places::SIZE_PLACE;
+pub use crate::places::WIDTH_PLACE;
+pub use crate::places::call_place;
 pub use crate::places::calls_before;
 pub use crate::places::length_at;
+pub use crate::places::shape_in;
+pub use crate::places::share_place;
 
 // A call of a script.
 pub enum Call {
@@ -35,29 +40,4 @@ pub struct Shape {
 pub enum Reading {
     Refused(u8),
     Good(Shape),
-}
-
-// Section 1's count, and the most that W, C, P, a script length and the schedule's length may be.
-pub const SECTION_COUNT: u8 = 2;
-
-pub const MOST_WIDTH: u8 = 16;
-
-pub const MOST_SIZE: u8 = 64;
-
-pub const MOST_PROCESSES: u8 = 8;
-
-pub const LONGEST_SCRIPT: u8 = 32;
-
-pub const LONGEST_SCHEDULE: u16 = 4096;
-
-// What a file says, for every slice of bytes.
-pub fn read(file: &[u8]) -> Reading
-    ensures { λ r. ⌜ Reads (now (file .entry)) r ⌝ }
-{
-    let number = sections::number_of(file);
-    if number != 0 {
-        return Reading::Refused(number);
-    }
-    let shape = places::shape_in(file);
-    Reading::Good(shape)
 }

@@ -1,5 +1,5 @@
 // Where the bytes stand. But for W and C nothing here looks at section 1: a file whose section 1 has one byte more is read by
-// these functions, and those of the other sections, as the slice without its first byte.
+// these functions, and those of reader for the other sections, as the slice without its first byte.
 ghost use mathlib.Core.Path.{_≡_};
 ghost use Prim.Native.Nat.{_<_};
 ghost use Rattle.runfile.specs.File.{sharePlace, lengthAt, callsBefore, callPlace, stepPlace, callsIn, stepsIn};
@@ -12,11 +12,11 @@ use base::u8_to_usize;
 use base::u16_to_usize;
 
 // Where W, C and P stand.
-pub(crate) const WIDTH_PLACE: usize = 1;
+pub const WIDTH_PLACE: usize = 1;
 
-pub(crate) const SIZE_PLACE: usize = 2;
+pub const SIZE_PLACE: usize = 2;
 
-pub(crate) const PROCESSES_PLACE: usize = 3;
+pub const PROCESSES_PLACE: usize = 3;
 
 impl Shape {
     // Where the bytes of the schedule begin, and where they end.
@@ -26,7 +26,7 @@ impl Shape {
         call_place(self.processes, self.calls) + 2
     }
 
-    pub(crate) fn schedule_end(self) -> usize
+    pub fn schedule_end(self) -> usize
         ensures { λ r. ⌜ (r ≡ stepPlace (self .processes) (self .calls) (self .steps)) × (r < 1100000) ⌝ }
     {
         self.schedule_place() + u16_to_usize(self.steps)
@@ -34,7 +34,7 @@ impl Shape {
 }
 
 // Where the script length of process p stands; that of process P would stand where section 3 begins.
-pub(crate) fn share_place(p: u8) -> usize
+pub fn share_place(p: u8) -> usize
     ensures { λ r. ⌜ (r ≡ sharePlace p) × (r < 1000) ⌝ }
 {
     4 + u8_to_usize(p)
@@ -62,7 +62,7 @@ pub fn calls_before(file: &[u8], p: u8) -> u16
 }
 
 // Where call k begins.
-pub(crate) fn call_place(processes: u8, k: u16) -> usize
+pub fn call_place(processes: u8, k: u16) -> usize
     ensures { λ r. ⌜ (r ≡ callPlace processes k) × (r < 900000) ⌝ }
 {
     6 + u8_to_usize(processes) + 3 * u16_to_usize(k)
@@ -86,7 +86,7 @@ fn steps_in(file: &[u8]) -> u16
 }
 
 // All counts, as the file gives them.
-pub(crate) fn shape_in(file: &[u8]) -> Shape
+pub fn shape_in(file: &[u8]) -> Shape
     ensures { λ r. ⌜ r ≡ shapeIn (now (file .entry)) ⌝ }
 {
     Shape {

@@ -69,7 +69,7 @@ fn good(shape: Shape) {
 
 // Reads a file.
 pub(crate) fn read(file: &[u8]) {
-    let reading = runfile::read(file);
+    let reading = reader::read(file);
     match reading {
         Reading::Refused(n) => refused(n as u16),
         Reading::Good(shape) => good(shape),

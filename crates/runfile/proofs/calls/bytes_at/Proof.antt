@@ -5,10 +5,6 @@ use borrow.Author.Needs.{needs}
 use Rattle.base.specs.Bytes.{byteAt, numberAt}
 use Rattle.runfile.proofs.calls.bytes_at.Statement.{statement}
 use Rattle.runfile.proofs.calls.bytes_at.Tie as tie
-use Rattle.base.proofs.byte_at.Reads as byte-at-reads
-use Rattle.base.proofs.number_at.Reads as number-at-reads
-use Rattle.runfile.proofs.calls.bytes_within.Reads as bytes-within-reads
-use Rattle.runfile.proofs.places.call_place.Reads as call-place-reads
 
 returns : tie.Need-returns
 returns c =

@@ -3,7 +3,6 @@ use mathlib.Core.Path.{sym, _∙_}
 use borrow.Author.Needs.{needs}
 use Rattle.runfile.proofs.calls.call_at.Statement.{statement}
 use Rattle.runfile.proofs.calls.call_at.Tie as tie
-use Rattle.runfile.proofs.calls.coded_at.Reads as coded-at-reads
 
 returns : tie.Need-returns
 returns c = rw (sym (c .before .before .before .coded-at .ensures) ∙ c .before .coded .given .1)

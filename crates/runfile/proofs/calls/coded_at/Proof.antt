@@ -2,8 +2,6 @@
 use borrow.Author.Needs.{needs}
 use Rattle.runfile.proofs.calls.coded_at.Statement.{statement}
 use Rattle.runfile.proofs.calls.coded_at.Tie as tie
-use Rattle.runfile.proofs.calls.bytes_at.Reads as bytes-at-reads
-use Rattle.runfile.proofs.calls.call_of.Reads as call-of-reads
 
 returns : tie.Need-returns
 returns c = rw (c .call-of .ensures, c .before .bytes-at .ensures .0, c .before .bytes-at .ensures .1)

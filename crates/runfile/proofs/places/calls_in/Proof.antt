@@ -2,9 +2,6 @@
 use borrow.Author.Needs.{needs}
 use Rattle.runfile.proofs.places.calls_in.Statement.{statement}
 use Rattle.runfile.proofs.places.calls_in.Tie as tie
-use Rattle.base.proofs.byte_at.Reads as byte-at-reads
-use Rattle.base.proofs.number_at.Reads as number-at-reads
-use Rattle.runfile.proofs.places.share_place.Reads as share-place-reads
 
 returns : tie.Need-returns
 returns c = rw (c .number-at .ensures, c .before .share-place .ensures .0, c .before .before .byte-at .ensures)

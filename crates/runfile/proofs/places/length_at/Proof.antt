@@ -2,8 +2,6 @@
 use borrow.Author.Needs.{needs}
 use Rattle.runfile.proofs.places.length_at.Statement.{statement}
 use Rattle.runfile.proofs.places.length_at.Tie as tie
-use Rattle.base.proofs.byte_at.Reads as byte-at-reads
-use Rattle.runfile.proofs.places.share_place.Reads as share-place-reads
 
 returns : tie.Need-returns
 returns c = rw (c .byte-at .ensures, c .before .share-place .ensures .0)

@@ -2,9 +2,6 @@
 use borrow.Author.Needs.{needs}
 use Rattle.runfile.proofs.places.shape_in.Statement.{statement}
 use Rattle.runfile.proofs.places.shape_in.Tie as tie
-use Rattle.base.proofs.byte_at.Reads as byte-at-reads
-use Rattle.runfile.proofs.places.calls_in.Reads as calls-in-reads
-use Rattle.runfile.proofs.places.steps_in.Reads as steps-in-reads
 
 returns : tie.Need-returns
 returns c =

@@ -2,10 +2,6 @@
 use borrow.Author.Needs.{needs}
 use Rattle.runfile.proofs.places.steps_in.Statement.{statement}
 use Rattle.runfile.proofs.places.steps_in.Tie as tie
-use Rattle.base.proofs.byte_at.Reads as byte-at-reads
-use Rattle.base.proofs.number_at.Reads as number-at-reads
-use Rattle.runfile.proofs.places.call_place.Reads as call-place-reads
-use Rattle.runfile.proofs.places.calls_in.Reads as calls-in-reads
 
 returns : tie.Need-returns
 returns c =
