@@ -1,4 +1,4 @@
--- Lines byte by byte; what is printed is read back; and that the promises settle their answers.
+-- What is known of C; what is printed is read back; and that the promises settle their answers.
 pub mod LineLaws
 pub mod PrintedLaws
 pub mod Settled

@@ -12,10 +12,10 @@ use Rattle.word.specs.Stages.{listed, rowNumber}
 use Rattle.word.specs.declared.Stage.{Stage}
 use Rattle.word.specs.declared.Stage.the-variants.{Idle, P1, P2, P3, T1, T2, T3, T4, B1, B2, B3, B4, B5, B6, B7}
 use Rattle.lines.specs.declared.Line.the-variants as line
-use Rattle.lines.specs.declared.words.Words.{Words}
+use Rattle.words.specs.declared.Words.{Words}
 use Rattle.base.proofs.Cases.{if-lt}
-use Rattle.lines.specs.Line.{blank, counted, fed, ended, spelling, wordsOf, lineIn, lineOf}
-use Rattle.lines.specs.Line.{typed}
+use Rattle.words.specs.Words.{blank, counted, fed, ended, wordsOf}
+use Rattle.lines.specs.Line.{typed, spelling, lineIn, lineOf}
 use Rattle.base.specs.{Bytes.Two, Lists.All}
 
 -- the last k decimal digits of n

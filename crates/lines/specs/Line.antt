@@ -1,10 +1,11 @@
--- What a line typed at the desk says. Words stand apart by blanks; a number is 0 to 65,535, and 65,536 stands for a word that is none.
-use Rattle.base.specs.Words.{ℕ, _+_, _-_, _*_, Bool, true, false, cond, _&&_, _||_, ltb, eqb, List, [], _∷_}
+-- What a line typed at the desk says.
+use Rattle.base.specs.Words.{ℕ, Bool, cond, ltb, eqb, List, [], _∷_}
 use Prim.Native.Char.{code}
 use Prim.Native.String.{String, [] as empty, _∷_ as _then_}
 use Rattle.word.specs.declared.Stage.{Stage}
 use Rattle.word.specs.declared.Stage.the-variants.{Idle, P1, P2, P3, T1, T2, T3, T4, B1, B2, B3, B4, B5, B6, B7}
-use Rattle.lines.specs.{declared.words.Words.Words, declared.Line.Line, declared.Sizes.Sizes}
+use Rattle.words.specs.{Words.spelled, Words.start, Words.wordsOf, Words.small, Words.numbers, declared.Words.Words}
+use Rattle.lines.specs.{declared.Line.Line, declared.Sizes.Sizes}
 use Rattle.lines.specs.declared.Why.the-variants.{Nothing, NoStage, Count, NoNumber}
 use Rattle.lines.specs.declared.Line.the-variants as line
 use Rattle.lines.specs.declared.Sizes.the-variants as sizes
@@ -14,57 +15,6 @@ use Rattle.lines.specs.declared.SizesWhy.the-variants as sizes-why
 abbrev pub typed : String → List ℕ
 typed empty = []
 typed (c then s) = code c ∷ typed s
-
--- a space, a tab or a carriage return
-abbrev pub blank : ℕ → Bool
-blank c = (eqb c 32 || eqb c 9) || eqb c 13
-
--- a small letter as a capital, any other byte as it is
-abbrev pub capital : ℕ → ℕ
-capital c = cond (ltb c 97) c (cond (ltb 122 c) c (c - 32))
-
--- a name with one letter more: base 256, from 1 on; from the fifth letter on it is no stage's
-abbrev pub spelled : ℕ → ℕ → ℕ
-spelled name c = cond (ltb name 1099511627776) (256 * name + capital c) name
-
--- a number with one digit more
-abbrev pub counted : ℕ → ℕ → ℕ
-counted n c = cond (ltb c 48) 65536 (cond (ltb 57 c) 65536 (cond (ltb 65535 (10 * n + (c - 48))) 65536 (10 * n + (c - 48))))
-
--- which word a byte that is no blank belongs to, the sixth and all after it as one
-abbrev pub wordAt : Bool → ℕ → ℕ
-wordAt inside count = cond inside count (cond (ltb count 6) (count + 1) 6)
-
--- the words with one byte more: it lengthens the word that it belongs to, and alters no other
-abbrev pub longer : Words → ℕ → ℕ → Words
-longer w at c = record {
-  inside = true;
-  count = at;
-  name = cond (eqb at 1) (spelled (w .name) c) (w .name);
-  a = cond (eqb at 2) (counted (w .a) c) (w .a);
-  b = cond (eqb at 3) (counted (w .b) c) (w .b);
-  c = cond (eqb at 4) (counted (w .c) c) (w .c);
-  d = cond (eqb at 5) (counted (w .d) c) (w .d);
-}
-
-abbrev pub ended : Words → Words
-ended w = record { inside = false; count = w .count; name = w .name; a = w .a; b = w .b; c = w .c; d = w .d }
-
-abbrev pub fed : Words → ℕ → Words
-fed w c = cond (blank c) (ended w) (longer w (wordAt (w .inside) (w .count)) c)
-
-abbrev pub start : ℕ → Words
-start before = record { inside = false; count = before; name = 1; a = 0; b = 0; c = 0; d = 0 }
-
-abbrev pub wordsOf : Words → List ℕ → Words
-wordsOf w [] = w
-wordsOf w (c ∷ s) = wordsOf (fed w c) s
-
-abbrev pub small : ℕ → ℕ
-small n = cond (ltb n 65536) n 0
-
-abbrev pub numbers : Words → Bool
-numbers w = ((ltb (w .a) 65536 && ltb (w .b) 65536) && ltb (w .c) 65536) && ltb (w .d) 65536
 
 -- a stage whose line has so many words, its name among them
 abbrev pub taken : Words → ℕ → Stage → Line

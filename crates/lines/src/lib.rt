@@ -1,14 +1,11 @@
 // What a line typed at the desk says: first W and C, then a stage a line, with document 01's names and numbers.
 ghost use mathlib.Core.Path.{_≡_};
 ghost use Rattle.lines.specs.Line.{taken as takenAs, bottomOf, topOf, stageOf, lineOf, sizesOf};
-
-mod words; // the words of a line
-
-use crate::words::Words;
-use crate::words::all_numbers;
-use crate::words::small_of;
-use crate::words::words_of;
 use word::Stage;
+use words::Words;
+use words::all_numbers;
+use words::small_of;
+use words::words_of;
 
 // The names, as the words of a line spell them.
 const IDLE: u64 = 0x149444C45;

@@ -2,8 +2,8 @@
 use native.Mathlib.Omega.{arith}
 use borrow.Author.Tests.{le-ltb, lt-ltb}
 use borrow.Author.Needs.{needs}
-use Rattle.lines.proofs.words.word_at.Statement.{statement}
-use Rattle.lines.proofs.words.word_at.Tie as tie
+use Rattle.words.proofs.word_at.Statement.{statement}
+use Rattle.words.proofs.word_at.Tie as tie
 
 returns-2 : tie.Need-returns-2
 returns-2 c = rw (c .before .if1 .left, lt-ltb (c .before .before .args .count) 6 (omega arith))

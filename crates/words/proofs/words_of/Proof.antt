@@ -3,10 +3,10 @@ use mathlib.Core.Path.{_≡_, refl, sym, _∙_}
 use Prim.Native.Nat.{_-_, _≤_}
 use borrow.Author.Needs.{needs}
 use lib.ListN.{length, drop}
-use Rattle.lines.specs.Line.{start, wordsOf}
-use Rattle.lines.proofs.LineLaws.{words-next, words-end}
-use Rattle.lines.proofs.words.words_of.Statement.{statement}
-use Rattle.lines.proofs.words.words_of.Tie as tie
+use Rattle.words.specs.Words.{start, wordsOf}
+use Rattle.words.proofs.WordLaws.{words-next, words-end}
+use Rattle.words.proofs.words_of.Statement.{statement}
+use Rattle.words.proofs.words_of.Tie as tie
 
 abbrev Inv-loop : tie.InvT-loop
 Inv-loop line before words₀ i₀ words i = (wordsOf words (drop i line) ≡ wordsOf (start before) line) × (i ≤ length line)

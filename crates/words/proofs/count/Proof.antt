@@ -3,8 +3,8 @@ use Prim.Native.Nat.{_+_, _-_, _*_, _<_, _≤_}
 use native.Mathlib.Omega.{arith}
 use borrow.Author.Tests.{le-ltb, lt-ltb}
 use borrow.Author.Needs.{needs}
-use Rattle.lines.proofs.words.count.Statement.{statement}
-use Rattle.lines.proofs.words.count.Tie as tie
+use Rattle.words.proofs.count.Statement.{statement}
+use Rattle.words.proofs.count.Tie as tie
 
 returns : tie.Need-returns
 returns c = rw (lt-ltb _ _ (c .if1 .taken))

@@ -1,8 +1,8 @@
 -- Both tests are those of `capital`.
 use borrow.Author.Tests.{le-ltb, lt-ltb}
 use borrow.Author.Needs.{needs}
-use Rattle.lines.proofs.words.capital.Statement.{statement}
-use Rattle.lines.proofs.words.capital.Tie as tie
+use Rattle.words.proofs.capital.Statement.{statement}
+use Rattle.words.proofs.capital.Tie as tie
 
 returns : tie.Need-returns
 returns c = rw (lt-ltb _ _ (c .if1 .taken))

@@ -1,22 +1,22 @@
 // The words of a line: how many they are, what the first one spells, and the next four as numbers. Words stand apart by blanks.
 ghost use mathlib.Core.Path.{_≡_};
-ghost use Rattle.lines.specs.Line.{blank, capital as capitalOf, spelled, counted, wordAt, fed, start, wordsOf, small, numbers};
+ghost use Rattle.words.specs.Words.{blank, capital as capitalOf, spelled, counted, wordAt, fed, start, wordsOf, small, numbers};
 use base::u8_to_u32;
 use base::u8_to_u64;
 
 // What stands for a word that is no number from 0 to 65,535.
-pub(crate) const NO_NUMBER: u32 = 65536;
+const NO_NUMBER: u32 = 65536;
 
 // What is known of a line's words so far: whether its last byte is in a word, how many have begun (6 for more), the name that the first spells,
 // and the four after it as numbers.
-pub(crate) struct Words {
-    pub(crate) inside: bool,
-    pub(crate) count: u8,
-    pub(crate) name: u64,
-    pub(crate) a: u32,
-    pub(crate) b: u32,
-    pub(crate) c: u32,
-    pub(crate) d: u32,
+pub struct Words {
+    pub inside: bool,
+    pub count: u8,
+    pub name: u64,
+    pub a: u32,
+    pub b: u32,
+    pub c: u32,
+    pub d: u32,
 }
 
 // A space, a tab, or the carriage return that some terminals put at the end.
@@ -116,7 +116,7 @@ fn feed(words: Words, byte: u8) -> Words
 }
 
 // The words of a line, where so many count as read before it.
-pub(crate) fn words_of(line: &[u8], before: u8) -> Words
+pub fn words_of(line: &[u8], before: u8) -> Words
     ensures { λ r. ⌜ r ≡ wordsOf (start before) (now (line .entry)) ⌝ }
 {
     let mut words = Words {
@@ -136,13 +136,13 @@ pub(crate) fn words_of(line: &[u8], before: u8) -> Words
     words
 }
 
-pub(crate) fn small_of(n: u32) -> u16
+pub fn small_of(n: u32) -> u16
     ensures { λ r. ⌜ r ≡ small n ⌝ }
 {
     if n < NO_NUMBER { n as u16 } else { 0 }
 }
 
-pub(crate) fn all_numbers(words: Words) -> bool
+pub fn all_numbers(words: Words) -> bool
     ensures { λ r. ⌜ r ≡ numbers words ⌝ }
 {
     (words.a < NO_NUMBER) & (words.b < NO_NUMBER) & (words.c < NO_NUMBER) & (words.d < NO_NUMBER)

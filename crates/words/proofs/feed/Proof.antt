@@ -2,8 +2,8 @@
 use borrow.Author.Tests.{ne-eqb}
 use mathlib.Core.Path.{sym, _∙_}
 use borrow.Author.Needs.{needs}
-use Rattle.lines.proofs.words.feed.Statement.{statement}
-use Rattle.lines.proofs.words.feed.Tie as tie
+use Rattle.words.proofs.feed.Statement.{statement}
+use Rattle.words.proofs.feed.Tie as tie
 
 returns : tie.Need-returns
 returns c = rw (sym (c .before .is-blank .ensures) ∙ c .if1 .taken)

@@ -1,8 +1,8 @@
 -- The test is that of `spelled`.
 use borrow.Author.Tests.{le-ltb, lt-ltb}
 use borrow.Author.Needs.{needs}
-use Rattle.lines.proofs.words.spell.Statement.{statement}
-use Rattle.lines.proofs.words.spell.Tie as tie
+use Rattle.words.proofs.spell.Statement.{statement}
+use Rattle.words.proofs.spell.Tie as tie
 
 returns : tie.Need-returns
 returns c = rw (lt-ltb _ _ (c .before .before .if1 .taken), c .u8-to-u64 .ensures .0, c .before .capital .ensures)

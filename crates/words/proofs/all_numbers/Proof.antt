@@ -1,7 +1,7 @@
 -- The four tests are those of `numbers`.
 use mathlib.Core.Path.{refl}
-use Rattle.lines.proofs.words.all_numbers.Statement.{statement}
-use Rattle.lines.proofs.words.all_numbers.Tie as tie
+use Rattle.words.proofs.all_numbers.Statement.{statement}
+use Rattle.words.proofs.all_numbers.Tie as tie
 
 returns : tie.Need-returns
 returns c = refl

@@ -1,8 +1,8 @@
 -- The test is that of `small`.
 use borrow.Author.Tests.{le-ltb, lt-ltb}
 use borrow.Author.Needs.{needs}
-use Rattle.lines.proofs.words.small_of.Statement.{statement}
-use Rattle.lines.proofs.words.small_of.Tie as tie
+use Rattle.words.proofs.small_of.Statement.{statement}
+use Rattle.words.proofs.small_of.Tie as tie
 
 returns : tie.Need-returns
 returns c = rw (lt-ltb _ _ (c .if1 .taken))
