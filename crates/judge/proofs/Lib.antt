@@ -1,8 +1,6 @@
 -- Each public function's promise settles its result.
 pub mod Settled
--- What an entry says, and a queue's nodes as a part of an array.
-pub mod KindLaws
-pub mod FieldLaws
+-- A queue's nodes as a part of an array.
 pub mod DequeLaws
 -- One rule each, as the code goes through them.
 pub mod EndLaws

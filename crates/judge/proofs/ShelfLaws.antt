@@ -22,7 +22,8 @@ use Rattle.rules.proofs.SearchLaws.{Found}
 use Rattle.rules.proofs.ContentLaws.{before-start}
 use Rattle.judge.proofs.EndLaws.{zeros}
 use Rattle.judge.specs.inner.Order.{momentAt, indexAt, instant, Fields, Ordered}
-use Rattle.judge.specs.inner.Causes.{shelfBy, shelfAfter, tookAfter, tookAt, shelved, passedBy, Passable}
+use Rattle.fields.specs.inner.Took.{tookAfter}
+use Rattle.judge.specs.inner.Causes.{shelfBy, shelfAfter, tookAt, shelved, passedBy, Passable}
 use Rattle.judge.proofs.ReplayLaws.{event-of, passed, instant-le, still, now-is, other-is, own-is}
 
 pub full-of : (c : List ℕ) → 0 < length c → isEmpty c ≡ false

@@ -1,5 +1,4 @@
 -- Terms of the code: a reader may skip them.
-pub mod Fields
 pub mod Order
 pub mod Replay
 pub mod Causes

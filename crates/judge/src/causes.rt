@@ -7,10 +7,11 @@ ghost use lib.ListN.{length};
 ghost use Rattle.log.specs.Decode.{entryAt};
 ghost use Rattle.rules.specs.Judge.{first5};
 ghost use Rattle.judge.specs.inner.Order.{momentAt, indexAt, Whole};
-ghost use Rattle.judge.specs.inner.Causes.{shelfAfter, tookAfter, passedBy, Passable, uncausedBy, Clean};
-use crate::fields::choose;
-use crate::fields::top_nil;
+ghost use Rattle.judge.specs.inner.Causes.{shelfAfter, passedBy, Passable, uncausedBy, Clean};
 use crate::read::entry;
+use fields::choose;
+use fields::took_after;
+use fields::top_nil;
 use log::Entry;
 use log::What;
 
@@ -34,17 +35,6 @@ fn shelf_after(e: Entry, shelf: u32) -> u32
             shelf - 65536
         }
         What::Full | What::BottomNil | What::TopNil | What::TopLost => shelf,
-    }
-}
-
-// The moment after the last take of the call's process from its queue, where it was this before the call.
-fn took_after(e: Entry, took: u32) -> u32
-    ensures { λ r. ⌜ r ≡ tookAfter e took ⌝ }
-{
-    if !(e.kind == log::PUSH) & !(e.kind == log::BOTTOM_POP) & (e.result == log::DONE) {
-        e.moment as u32 + 1
-    } else {
-        took
     }
 }
 

@@ -7,8 +7,8 @@ ghost use Rattle.rules.specs.Search.{any};
 ghost use Rattle.rules.specs.Judge.{first6};
 ghost use Rattle.judge.specs.inner.Order.{Fields, Whole, isFull};
 ghost use Rattle.judge.specs.inner.Full.{countsAfter};
-use crate::fields::full;
 use crate::read::entry;
+use fields::full;
 use log::Entry;
 use log::What;
 

@@ -10,7 +10,7 @@ ghost use Rattle.rules.specs.Search.{any};
 ghost use Rattle.rules.specs.Judge.{says, momentRulesOf, rulesOf, headRight, judgeOf};
 
 mod read; // an entry
-mod fields; // rule 1
+mod entries; // rule 1
 mod ends; // rule 2
 mod order; // rule 3, and the calls by rising moment
 mod nodes; // whether the pushed nodes differ
@@ -38,7 +38,7 @@ fn rules(log: &[u8], n: usize, p: u8, slots: u8) -> Verdict
     requires { ⌜ (n ≤ 256) × (p ≤ 8) × Whole (now log) n ⌝ }
     ensures { λ r. ⌜ r ≡ rulesOf (entryAt (now (log .entry))) n p slots ⌝ }
 {
-    let j1 = fields::first_wrong(log, n, p);
+    let j1 = entries::first_wrong(log, n, p);
     if j1 < n {
         return verdict_of(14, j1);
     }

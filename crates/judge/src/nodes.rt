@@ -6,8 +6,8 @@ ghost use Rattle.marks.specs.inner.Marks.{marked, withMark};
 ghost use Rattle.log.specs.Decode.{entryAt};
 ghost use Rattle.judge.specs.inner.Order.{Whole};
 ghost use Rattle.judge.specs.inner.Replay.{Differ};
-use crate::fields::pushed;
 use crate::read::entry;
+use fields::pushed;
 use marks::MARK_BYTES;
 use marks::mark;
 

@@ -12,9 +12,9 @@ ghost use Rattle.rules.specs.Rules.{lawful as lawfulIs};
 ghost use Rattle.rules.specs.Judge.{first4};
 ghost use Rattle.judge.specs.inner.Order.{Fields, Ordered, Whole};
 ghost use Rattle.judge.specs.inner.Replay.{Differ, newIn, endsAfter, heldIn, Roomy};
-use crate::fields::choose;
-use crate::fields::pushed;
 use crate::read::entry;
+use fields::choose;
+use fields::pushed;
 use log::Entry;
 use log::What;
 

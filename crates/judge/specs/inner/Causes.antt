@@ -8,10 +8,11 @@ use lib.ListN.{getD, set, length}
 use Rattle.log.specs.declared.Entry.{Entry}
 use Rattle.log.specs.declared.What.{What}
 use Rattle.log.specs.declared.What.the-variants.{Pushed, Full, BottomNode, BottomNil, TopNode, TopNil, TopLost}
-use Rattle.log.specs.Numbers.{what, same}
+use Rattle.log.specs.Numbers.{what}
 use Rattle.rules.specs.Search.{any}
 use Rattle.rules.specs.Accepted.{Rule3}
 use Rattle.rules.specs.Judge.{first3, first4}
+use Rattle.fields.specs.inner.Took.{tookAfter}
 use Rattle.judge.specs.inner.Order.{Fields, Ordered}
 
 -- a queue's shelf is 65,536 times how many nodes it holds, plus the moment at which it was filled; what a lawful call at moment m makes of it
@@ -26,10 +27,6 @@ shelfBy TopLost m s = s
 
 abbrev pub shelfAfter : Entry → ℕ → ℕ
 shelfAfter e s = shelfBy (what e) (e .moment) s
-
--- the moment after the last take from the top, where it was t before the call
-abbrev pub tookAfter : Entry → ℕ → ℕ
-tookAfter e t = cond (same TopNode (what e)) (e .moment + 1) t
 
 -- the shelves of eight queues, and after them for each queue and process the moment after the process's last take
 abbrev pub tookAt : ℕ → ℕ → ℕ

@@ -7,7 +7,7 @@ use borrow.Author.Tests.{lt-ltb, le-ltb}
 use lib.Dec.{ltb}
 use Rattle.log.specs.declared.What.{What}
 use Rattle.judge.specs.inner.Causes.{shelfBy, shelfAfter}
-use Rattle.judge.proofs.KindLaws.{took, unaltered}
+use Rattle.fields.proofs.KindLaws.{took, unaltered}
 use Rattle.judge.proofs.causes.shelf_after.Statement.{statement}
 use Rattle.judge.proofs.causes.shelf_after.Tie as tie
 

@@ -5,7 +5,7 @@ use borrow.Author.Needs.{needs}
 use Rattle.log.specs.declared.What.{What}
 use Rattle.log.specs.Numbers.{what}
 use Rattle.judge.specs.inner.Full.{countsAfter}
-use Rattle.judge.proofs.KindLaws.{uncounted}
+use Rattle.fields.proofs.KindLaws.{uncounted}
 use Rattle.judge.proofs.full.counts_after.Statement.{statement}
 use Rattle.judge.proofs.full.counts_after.Tie as tie
 

@@ -7,7 +7,7 @@ use borrow.Author.Needs.{needs}
 use Rattle.log.specs.declared.What.{What}
 use Rattle.log.specs.Numbers.{what}
 use Rattle.judge.specs.inner.Replay.{loOf, hiOf, endsAfter}
-use Rattle.judge.proofs.KindLaws.{unaltered}
+use Rattle.fields.proofs.KindLaws.{unaltered}
 use Rattle.judge.proofs.replay.moved.Statement.{statement}
 use Rattle.judge.proofs.replay.moved.Tie as tie
 

@@ -1,4 +1,4 @@
--- `judge::fields::first_wrong` meets its contract. The loop keeps: the first among the entries that are left is the first of all.
+-- `judge::entries::first_wrong` meets its contract. The loop keeps: the first among the entries that are left is the first of all.
 use mathlib.Core.Path.{_≡_, ap, sym, _∙_}
 use mathlib.Core.Bool.{not}
 use Prim.Native.Nat.{_-_, _≤_}
@@ -8,8 +8,8 @@ use Rattle.log.specs.Decode.{entryAt}
 use Rattle.rules.proofs.SearchLaws.{first-start, first-next, first-found, first-end}
 use Rattle.rules.specs.Search.{first}
 use Rattle.rules.specs.Rules.{keeps1, breaks1}
-use Rattle.judge.proofs.fields.first_wrong.Statement.{statement}
-use Rattle.judge.proofs.fields.first_wrong.Tie as tie
+use Rattle.judge.proofs.entries.first_wrong.Statement.{statement}
+use Rattle.judge.proofs.entries.first_wrong.Tie as tie
 
 abbrev Inv-loop : tie.InvT-loop
 Inv-loop log n p i₀ i = (i ≤ n) × (first (breaks1 (entryAt log) p) i (n - i) ≡ first (breaks1 (entryAt log) p) 0 n)

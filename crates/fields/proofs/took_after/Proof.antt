@@ -1,9 +1,9 @@
--- `judge::causes::took_after` meets its contract.
+-- `fields::took_after` meets its contract.
 use mathlib.Core.Path.{sym, _∙_}
 use borrow.Author.Needs.{needs}
-use Rattle.judge.proofs.KindLaws.{took-top-is}
-use Rattle.judge.proofs.causes.took_after.Statement.{statement}
-use Rattle.judge.proofs.causes.took_after.Tie as tie
+use Rattle.fields.proofs.KindLaws.{took-top-is}
+use Rattle.fields.proofs.took_after.Statement.{statement}
+use Rattle.fields.proofs.took_after.Tie as tie
 
 returns : tie.Need-returns
 returns c = let e = c .before .before .before .before .before .args .e in rw (sym (took-top-is (e .kind) (e .result)) ∙ c .before .if1 .taken)

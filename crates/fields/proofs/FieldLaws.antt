@@ -9,7 +9,7 @@ use lib.Dec.{eqb, leb}
 use Rattle.log.specs.Numbers.{push, bottomPop, topPop, nil, full, lost, mostResult}
 use Rattle.rules.specs.Search.{any}
 use Rattle.rules.proofs.SearchLaws.{any-none}
-use Rattle.judge.specs.inner.Fields.{standsIn, withNode, withoutNode}
+use Rattle.fields.specs.inner.Fields.{standsIn, withNode, withoutNode}
 
 -- the phrases on kind k, result r, whether the node is 0 and whether the queue is the process's own, after others that say s
 abbrev phrases : Bool → ℕ → ℕ → Bool → Bool → Bool

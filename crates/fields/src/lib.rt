@@ -1,15 +1,12 @@
-// Rule 1, and what an entry says of its call by its kind and result alone.
+// What an entry says by itself: rules 1 and 3 of one entry, and what its call did, by kind and result alone.
 ghost use mathlib.Core.Path.{_≡_};
 ghost use mathlib.Core.Bool.{cond};
-ghost use Prim.Native.Nat.{_≤_};
-ghost use Rattle.log.specs.Numbers.{what as whatIs, same, isTopNil};
-ghost use Rattle.log.specs.Decode.{entryAt};
+ghost use lib.Dec.{eqb};
+ghost use Rattle.log.specs.Numbers.{what as whatIs, same, isTopNil, noMoment};
 ghost use Rattle.rules.specs.Contents.{bears as bearsIs};
-ghost use Rattle.rules.specs.Rules.{keeps1};
-ghost use Rattle.rules.specs.Judge.{first1};
-ghost use Rattle.judge.specs.inner.Order.{Whole};
-ghost use Rattle.judge.specs.inner.Fields.{standsIn};
-use crate::read::entry;
+ghost use Rattle.rules.specs.Rules.{keeps1, inCall};
+ghost use Rattle.fields.specs.inner.Fields.{standsIn};
+ghost use Rattle.fields.specs.inner.Took.{tookAfter};
 use log::Entry;
 use log::What;
 
@@ -35,7 +32,7 @@ fn stands(table: u16, kind: u8, result: u8) -> bool
 }
 
 // Rule 1.
-fn keeps_fields(p: u8, e: Entry) -> bool
+pub fn keeps_fields(p: u8, e: Entry) -> bool
     ensures { λ r. ⌜ r ≡ keeps1 p e ⌝ }
 {
     let table = if e.node == 0 { WITHOUT_NODE } else { WITH_NODE };
@@ -52,51 +49,59 @@ fn keeps_fields(p: u8, e: Entry) -> bool
         & (end <= LAST_END)
 }
 
+// Rule 3 of one entry: a moment in the call's time where one is wanted, else none.
+pub fn moment_right(wanted: bool, e: Entry) -> bool
+    ensures { λ r. ⌜ r ≡ cond wanted (inCall e (e .moment)) (eqb (e .moment) noMoment) ⌝ }
+{
+    let at = e.moment as usize;
+    let from = 2 * (e.start as usize);
+    let to = 2 * (e.end as usize) + 1;
+    if wanted {
+        (from <= at) & (at <= to)
+    } else {
+        e.moment == log::NO_MOMENT
+    }
+}
+
 // Whether the call bears a moment, was a done push, a refused one, gave no node at the top.
-pub(crate) fn bears(e: Entry) -> bool
+pub fn bears(e: Entry) -> bool
     ensures { λ r. ⌜ r ≡ bearsIs e ⌝ }
 {
     (e.kind == log::BOTTOM_POP) | (e.result == log::DONE)
 }
 
-pub(crate) fn pushed(e: Entry) -> bool
+pub fn pushed(e: Entry) -> bool
     ensures { λ r. ⌜ r ≡ same What.Pushed (whatIs e) ⌝ }
 {
     (e.kind == log::PUSH) & (e.result == log::DONE)
 }
 
-pub(crate) fn full(e: Entry) -> bool
+pub fn full(e: Entry) -> bool
     ensures { λ r. ⌜ r ≡ same What.Full (whatIs e) ⌝ }
 {
     (e.kind == log::PUSH) & !(e.result == log::DONE)
 }
 
-pub(crate) fn top_nil(e: Entry) -> bool
+pub fn top_nil(e: Entry) -> bool
     ensures { λ r. ⌜ r ≡ isTopNil (whatIs e) ⌝ }
 {
     !(e.kind == log::PUSH) & !(e.kind == log::BOTTOM_POP) & !(e.result == log::DONE)
 }
 
+// The moment after the last take of the call's process from its queue, where it was this before the call.
+pub fn took_after(e: Entry, took: u32) -> u32
+    ensures { λ r. ⌜ r ≡ tookAfter e took ⌝ }
+{
+    if !(e.kind == log::PUSH) & !(e.kind == log::BOTTOM_POP) & (e.result == log::DONE) {
+        e.moment as u32 + 1
+    } else {
+        took
+    }
+}
+
 // One of two numbers, by what was told of an entry.
-pub(crate) fn choose(h: bool, a: usize, b: usize) -> usize
+pub fn choose(h: bool, a: usize, b: usize) -> usize
     ensures { λ r. ⌜ r ≡ cond h a b ⌝ }
 {
     if h { a } else { b }
-}
-
-// The first entry that breaks rule 1, or n.
-pub(crate) fn first_wrong(log: &[u8], n: usize, p: u8) -> usize
-    requires { ⌜ (n ≤ 256) × Whole (now log) n ⌝ }
-    ensures { λ r. ⌜ r ≡ first1 (entryAt (now (log .entry))) n p ⌝ }
-{
-    let mut i: usize = 0;
-    while i < n {
-        let e = entry(log, i);
-        let right = keeps_fields(p, e);
-        if !right {
-            return i;
-        }
-        i = i + 1;
-    }
-    i
 }

@@ -1,4 +1,4 @@
--- `judge::fields::keeps_fields` meets its contract: what stands in the tables is what the phrases on kind, result and node say.
+-- `fields::keeps_fields` meets its contract: what stands in the tables is what the phrases on kind, result and node say.
 use mathlib.Core.Path.{_≡_, ap, _∙_}
 use mathlib.Core.Logic.{⊎-elim}
 use mathlib.Core.Bool.{Bool, cond, _&&_, _||_}
@@ -6,10 +6,10 @@ use Prim.Native.Nat.{ℕ}
 use borrow.Author.Needs.{needs}
 use lib.Dec.{eqb, ltb, leb}
 use Rattle.rules.specs.Rules.{lastEnd}
-use Rattle.judge.specs.inner.Fields.{withNode, withoutNode, standsIn}
-use Rattle.judge.proofs.FieldLaws.{table-is, table-none, table-some}
-use Rattle.judge.proofs.fields.keeps_fields.Statement.{statement}
-use Rattle.judge.proofs.fields.keeps_fields.Tie as tie
+use Rattle.fields.specs.inner.Fields.{withNode, withoutNode, standsIn}
+use Rattle.fields.proofs.FieldLaws.{table-is, table-none, table-some}
+use Rattle.fields.proofs.keeps_fields.Statement.{statement}
+use Rattle.fields.proofs.keeps_fields.Tie as tie
 
 returns : tie.Need-returns
 returns c =

@@ -1,0 +1,3 @@
+-- Terms of the code: a reader may skip them.
+pub mod Fields
+pub mod Took
