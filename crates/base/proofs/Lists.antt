@@ -1,8 +1,9 @@
 -- Laws of what holds of all elements of a list and of all pairs, of membership, and of the first values of a function.
-use Prim.Native.Nat.{ℕ, zero, suc, _≤_, _<_}
+use Prim.Native.Nat.{ℕ, zero, suc, _+_, _*_, _≤_, _<_}
 use mathlib.Core.Path.{_≡_, refl, sym, ap, _∙_}
 use mathlib.Core.List.{List, [], _∷_, _++_}
 use mathlib.Core.Logic.{inl, inr}
+use native.Mathlib.Nat.{mul-suc, mul-le-mul-left}
 use native.Mathlib.Omega.{arith}
 use lib.ListN.{getD, length, take}
 use lib.Seq.{take-length}
@@ -73,3 +74,7 @@ module _ {A : Type 0} where
 
   pub listOf-all : (d : A) (xs : List A) → listOf (length xs) (λ i. getD xs i d) ≡ xs
   listOf-all d xs = listOf-take d (length xs) xs (omega arith) ∙ take-length xs
+
+-- rows of so many places each, one after the other
+pub rows-apart : (width i k : ℕ) → i < k → width * i + width ≤ width * k
+rows-apart width i k h = omega (arith, mul-suc width i, mul-le-mul-left {m = suc i} {n = k} width (omega arith))

@@ -2,7 +2,6 @@
 use Prim.Native.Nat.{ℕ, suc, _+_, _-_, _*_, _≤_, _<_}
 use mathlib.Core.Path.{_≡_, refl, sym, ap, _∙_, subst}
 use mathlib.Core.List.{List, [], _∷_, _++_}
-use native.Mathlib.Nat.{mul-suc, mul-le-mul-left}
 use native.Mathlib.Omega.{arith}
 use native.Mathlib.Decide.{decLt, ℕ-discrete}
 use lib.ListN.{length, getD, take, drop, set, length-set, length-drop, List·getD-append}
@@ -11,7 +10,7 @@ use borrow.Rule.Slice.PartMut.{putMid, same-len-mid}
 use Rattle.base.specs.Bytes.{putAt}
 use Rattle.base.specs.Lists.{listOf}
 use Rattle.log.specs.Encode.{entryBytes}
-use Rattle.base.proofs.Lists.{listOf-length, listOf-getD}
+use Rattle.base.proofs.Lists.{listOf-length, listOf-getD, rows-apart}
 use Rattle.log.specs.declared.Entry.{Entry}
 use Rattle.steps.specs.Step.{stored}
 use Rattle.steps.specs.Packed.{unpacked, StepPacked}
@@ -55,9 +54,6 @@ module _ (xs ys : List ℕ) (a k : ℕ) (h : a + k ≤ length xs) (e : length ys
   put-length = same-len-mid a k xs ys (e ∙ sym (length-take-le k (drop a xs) (simp length-drop (omega arith))))
 
 -- the slots of a queue end where those of the next begin, and all lie in the row
-rows-apart : (C i q : ℕ) → i < q → C * i + C ≤ C * q
-rows-apart C i q h = omega (arith, mul-suc C i, mul-le-mul-left {m = suc i} {n = q} C (omega arith))
-
 pub row-in : (C q : ℕ) → C ≤ 64 → q < 8 → C * q + C ≤ 512
 row-in C q small h = omega (arith, rows-apart C q 8 h)
 

@@ -21,7 +21,7 @@ use Rattle.bench.specs.inner.Walk.{walkedOne, walked}
 use Rattle.runs.specs.inner.Counted.{Counted}
 use Rattle.runs.specs.inner.Left.{total}
 use Rattle.runs.specs.inner.Sound.{Sizes, Fit, processes, AllIn, Sound}
-use Rattle.runs.proofs.Sound.{sound-turn}
+use Rattle.runs.proofs.Sound.{sound-as, sound-turn}
 use Rattle.runs.proofs.EntriesLaws.{Bounded, turn-bounded}
 use Rattle.bench.specs.declared.Bench.{Bench as HeldBench}
 use Rattle.bench.proofs.LayoutLaws.{put-append}
@@ -68,18 +68,10 @@ pub record Along (f : Sizes) (N n : ℕ) (log₀ : List ℕ) (s : State) (b : He
   pub left : total (benchIn b .processes) + b .entries ≤ N
 
 -- what is in range does not depend on the log
-pub sound-held : (f : Sizes) (n : ℕ) (log₀ : List ℕ) (s : State) (b : HeldBench) (flat log : List ℕ) → Becomes (f .size) n log₀ s b flat log → Sound f s → Sound f (stateIn (f .size) b flat)
+pub sound-held : (f : Sizes) (n : ℕ) (log₀ : List ℕ) (s : State) (b : HeldBench) (flat log : List ℕ) → Becomes (f .size) n log₀ s b flat log → Sound f s
+    → Sound f (stateIn (f .size) b flat)
 sound-held f n log₀ s b flat log g v =
-    subst (Sound f) (λ i. record { bench = sym (g .bench) i; slots = sym (g .slots) i; log = [] }) (record {
-      queues = v .queues;
-      records = v .records;
-      tables = v .tables;
-      words = v .words;
-      sizes = v .sizes;
-      each = v .each;
-      later = v .later;
-      absent = v .absent;
-    })
+    subst (Sound f) (λ i. record { bench = sym (g .bench) i; slots = sym (g .slots) i; log = [] }) (sound-as f s v (s .bench .steps) (s .bench .gone) [])
 
 pub put-same-length : (at : ℕ) (bytes buffer : List ℕ) → length (putAt at bytes buffer) ≡ length buffer
 put-same-length at bytes buffer =

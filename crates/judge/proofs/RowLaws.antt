@@ -3,7 +3,6 @@ use mathlib.Core.Path.{_≡_, refl, sym, ap, _∙_, subst}
 use mathlib.Core.Bool.{Bool, true, false, cond, _&&_, not, and-false}
 use mathlib.Core.List.{List}
 use Prim.Native.Nat.{ℕ, suc, _+_, _-_, _*_, _^_, _≤_, _<_}
-use native.Mathlib.Nat.{mul-suc, mul-le-mul-left}
 use native.Mathlib.Omega.{arith}
 use native.Mathlib.Decide.{ℕ-discrete, decLt}
 use borrow.Author.Tests.{lt-ltb, ltb-true, eq-eqb, eqb-true, leb-true, leb-false}
@@ -19,6 +18,7 @@ use Rattle.rules.specs.Search.{any}
 use Rattle.rules.specs.Contents.{bears, before, applied}
 use Rattle.rules.specs.Rules.{addedBefore, fresh, lawful, lawfulAt, breaks4}
 use Rattle.base.proofs.Cases.{ever}
+use Rattle.base.proofs.Lists.{rows-apart}
 use Rattle.base.proofs.Bools.{contra, and-i, and-0, and-1, not-so, by-both}
 use Rattle.rules.proofs.SearchLaws.{Found, any-e, any-i, any-no}
 use Rattle.judge.proofs.EndLaws.{zeros}
@@ -132,10 +132,6 @@ pub record Replayed (watch : Bool) (f : ℕ → Entry) (n : ℕ) (keys : List �
   pub row : (q : ℕ) → q < 8 → Row f n keys width k nodes q (getD ends q 0)
   pub pushes : Added watch f n keys (8 * width) k nodes c
   pub fine : (a : ℕ) → a < k → breaks4 f n (indexAt keys a) ≡ false
-
--- a row ends before a later one begins
-rows-apart : (width p q : ℕ) → p < q → width * p + width ≤ width * q
-rows-apart width p q u = omega (arith, mul-suc width p, mul-le-mul-left {m = suc p} {n = q} width (omega arith))
 
 pub replay-start : (watch : Bool) (f : ℕ → Entry) (n : ℕ) (keys : List ℕ) (width : ℕ) (nodes : List ℕ) → (watch ≡ false → Differ f n)
     → length nodes ≡ 9 * width → Replayed watch f n keys width 0 nodes (replicate 8 0) 0

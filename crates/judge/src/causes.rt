@@ -15,7 +15,10 @@ use fields::top_nil;
 use log::Entry;
 use log::What;
 
-// What a call makes of its queue's shelf, which is 65,536 times how many nodes the queue holds, plus the moment at which it was filled.
+// A shelf is this many times how many nodes its queue holds, plus the moment at which it was filled.
+const SHELVED: u32 = 65536;
+
+// What a call makes of its queue's shelf.
 fn shelf_after(e: Entry, shelf: u32) -> u32
     requires { ⌜ shelf < 2 ^ 31 ⌝ }
     ensures { λ r. ⌜ r ≡ shelfAfter e shelf ⌝ }
@@ -23,16 +26,16 @@ fn shelf_after(e: Entry, shelf: u32) -> u32
     let did = log::what_of(e.kind, e.result);
     match did {
         What::Pushed => {
-            if shelf < 65536 {
-                return 65536 + e.moment as u32;
+            if shelf < SHELVED {
+                return SHELVED + e.moment as u32;
             }
-            shelf + 65536
+            shelf + SHELVED
         }
         What::BottomNode | What::TopNode => {
-            if shelf < 65536 {
+            if shelf < SHELVED {
                 return shelf;
             }
-            shelf - 65536
+            shelf - SHELVED
         }
         What::Full | What::BottomNil | What::TopNil | What::TopLost => shelf,
     }
@@ -81,7 +84,7 @@ fn uncaused(shelves: &[u32; 72], nil: Entry) -> bool
         p = p + 1;
     }
     let shelf = shelves[on];
-    (65536 <= shelf) & (shelf % 65536 <= from) & !other
+    (SHELVED <= shelf) & (shelf % SHELVED <= from) & !other
 }
 
 // The first entry that breaks rule 5, or n.

@@ -7,6 +7,7 @@ ghost use Rattle.rules.specs.Search.{any};
 ghost use Rattle.rules.specs.Judge.{first6};
 ghost use Rattle.judge.specs.inner.Order.{Fields, Whole, isFull};
 ghost use Rattle.judge.specs.inner.Full.{countsAfter};
+use crate::UPPER;
 use crate::read::entry;
 use fields::full;
 use log::Entry;
@@ -19,7 +20,7 @@ fn counts_after(e: Entry, counts: usize) -> usize
 {
     let did = log::what_of(e.kind, e.result);
     match did {
-        What::Pushed => counts + 65536,
+        What::Pushed => counts + UPPER,
         What::BottomNode => counts + 1,
         What::BottomNil => 0,
         What::Full | What::TopNode | What::TopNil | What::TopLost => counts,
@@ -49,7 +50,7 @@ fn unfilled_by_counts(log: &[u8], n: usize, slots: u8) -> usize
         let e = entry(log, j);
         let q = e.queue as usize;
         let there = counts[q];
-        if full(e) & (there / 65536 < slots as usize + there % 65536) {
+        if full(e) & (there / UPPER < slots as usize + there % UPPER) {
             return j;
         }
         counts[q] = counts_after(e, there);

@@ -7,6 +7,7 @@ ghost use Rattle.log.specs.Decode.{entryAt};
 ghost use Rattle.rules.specs.Left.{Leaves};
 ghost use Rattle.judge.specs.inner.Order.{Ordered, Whole};
 ghost use Rattle.judge.specs.inner.Replay.{loOf, hiOf, LiesIn};
+use crate::UPPER;
 use crate::judge;
 use crate::order::by_moment;
 use crate::read::entry;
@@ -42,7 +43,7 @@ fn replayed(
         if e.queue != queue {
             continue;
         }
-        row[ends / 65536] = e.node;
+        row[ends / UPPER] = e.node;
         ends = moved(ends, e);
     }
     ends
@@ -78,8 +79,8 @@ pub fn left(log: &[u8], queue: u8, nodes: &mut [u16; 256]) -> Remaining
     let sorted = by_moment(log, n, &mut keys);
     let mut row: [u16; 256] = [0; 256];
     let ends = replayed(log, n, queue, &keys, sorted.count, &mut row);
-    let lo = ends % 65536;
-    let hi = ends / 65536;
+    let lo = ends % UPPER;
+    let hi = ends / UPPER;
     let count = hi - lo;
     put(&row[lo..hi], nodes);
     Remaining {

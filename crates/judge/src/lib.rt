@@ -23,6 +23,9 @@ pub use crate::leaves::Remaining;
 pub use crate::leaves::left;
 pub use rules::Verdict;
 
+// Two numbers lie in one: the upper one times this, and the lower one.
+const UPPER: usize = 65536;
+
 fn verdict_of(number: u8, j: usize) -> Verdict
     requires { ⌜ j < 65536 ⌝ }
     ensures { λ r. ⌜ r ≡ says number j ⌝ }

@@ -12,6 +12,7 @@ ghost use Rattle.rules.specs.Rules.{lawful as lawfulIs};
 ghost use Rattle.rules.specs.Judge.{first4};
 ghost use Rattle.judge.specs.inner.Order.{Fields, Ordered, Whole};
 ghost use Rattle.judge.specs.inner.Replay.{Differ, newIn, endsAfter, heldIn, Roomy};
+use crate::UPPER;
 use crate::read::entry;
 use fields::choose;
 use fields::pushed;
@@ -39,8 +40,8 @@ fn lawful(nodes: &[u16], row: usize, ends: usize, from: usize, count: usize, e: 
     requires { ⌜ (row + ends / 65536 ≤ length (now nodes)) × (row + ends < 2 ^ 32) × (from + count ≤ length (now nodes)) × (from + count < 2 ^ 32) ⌝ }
     ensures { λ r. ⌜ r ≡ lawfulIs (newIn (now (nodes .entry)) from count (e .node)) (whatIs e) (e .node) (heldIn (now (nodes .entry)) row ends) ⌝ }
 {
-    let lo = row + ends % 65536;
-    let hi = row + ends / 65536;
+    let lo = row + ends % UPPER;
+    let hi = row + ends / UPPER;
     let did = log::what_of(e.kind, e.result);
     match did {
         What::Pushed => !pushed_in(nodes, from, count, e.node),
@@ -68,15 +69,15 @@ pub(crate) fn moved(ends: usize, e: Entry) -> usize
 {
     let did = log::what_of(e.kind, e.result);
     match did {
-        What::Pushed => ends + 65536,
+        What::Pushed => ends + UPPER,
         What::BottomNode => {
-            if ends / 65536 <= ends % 65536 {
+            if ends / UPPER <= ends % UPPER {
                 return ends;
             }
-            ends - 65536
+            ends - UPPER
         }
         What::TopNode => {
-            if ends / 65536 <= ends % 65536 {
+            if ends / UPPER <= ends % UPPER {
                 return ends;
             }
             ends + 1
@@ -112,7 +113,7 @@ pub(crate) fn first_unlawful(
         if !lawful(nodes, row, at, from, c, e) {
             return j;
         }
-        nodes[row + at / 65536] = e.node;
+        nodes[row + at / UPPER] = e.node;
         ends[q] = moved(at, e);
         nodes[from + c] = e.node;
         c = choose(pushed(e) & watch, c + 1, c);

@@ -18,6 +18,7 @@ use Rattle.steps.specs.declared.Stepped.{Stepped}
 use Rattle.steps.specs.declared.Store.{Store}
 use Rattle.steps.specs.declared.Store.the-variants as store
 use Rattle.runfile.specs.declared.Call.{Call}
+use Rattle.log.specs.declared.Entry.{Entry}
 use Rattle.runfile.specs.declared.Call.the-variants.{Push, Pop, Take}
 use Rattle.runs.specs.Moment.{queueOf}
 use Rattle.runs.specs.State.{Process, Queue, State, fresh, nobody, queueAt, processAt, start}
@@ -55,6 +56,20 @@ pub record Fresh (f : Sizes) (s : State) : Type 0 where
   pub begun : (p : ℕ) → processAt (s .bench) p .start ≤ s .bench .steps
   pub log : s .log ≡ []
   pub gone : s .bench .gone ≡ 0
+
+-- what is in range is of queues, records and slots alone
+pub sound-as : (f : Sizes) (s : State) → Sound f s → (steps gone : ℕ) (log : List Entry)
+    → Sound f (record { bench = record { queues = s .bench .queues; processes = s .bench .processes; steps = steps; gone = gone }; slots = s .slots; log = log })
+sound-as f s v steps gone log = record {
+  queues = v .queues;
+  records = v .records;
+  tables = v .tables;
+  words = v .words;
+  sizes = v .sizes;
+  each = v .each;
+  later = v .later;
+  absent = v .absent;
+}
 
 module _ (f : Sizes) (h : Fit f) where
   -- whoever steps in such a state is in range
@@ -162,16 +177,7 @@ module _ (f : Sizes) (h : Fit f) where
         apart j e le = omega (arith, k .below)
 
   pub sound-idle : (s : State) → Sound f s → Sound f (idle s)
-  sound-idle s v = record {
-    queues = v .queues;
-    records = v .records;
-    tables = v .tables;
-    words = v .words;
-    sizes = v .sizes;
-    each = v .each;
-    later = v .later;
-    absent = v .absent;
-  }
+  sound-idle s v = sound-as f s v (idle s .bench .steps) (s .bench .gone) (s .log)
 
   -- so every turn keeps it, whatever the calls are
   pub sound-turn : (calls : List Call) → AllIn (processes f) calls → (s : State) → Sound f s → (p : ℕ) → p < processes f

@@ -323,25 +323,3 @@ module _ (f : Sizes) (w : Fit f) (s : State) (v : Sound f s) (h : Inv f s) (j : 
       by : (b : Bool) → isOwn (r .stage) ≡ b → RoomOf (logged (o .next))
       by true i = own-act i
       by false i = thief-act i
-
--- a corollary: the bottom is at most the done pushes since the owner's latest NIL bottom pop, so at most all of them
-bottom-lim : (C nd : ℕ) (m : Memory) (z : Stage) → AtOwner C nd m z → m .word .bottom ≤ lim (m .word .bottom) z
-bottom-lim C nd m Idle h = omega arith
-bottom-lim C nd m (P1 x) h = omega arith
-bottom-lim C nd m (P2 x b) h = omega arith
-bottom-lim C nd m (P3 b) h = omega arith
-bottom-lim C nd m T1 h = omega arith
-bottom-lim C nd m (T2 t g) h = omega arith
-bottom-lim C nd m (T3 t g b) h = omega arith
-bottom-lim C nd m (T4 t g b x) h = omega arith
-bottom-lim C nd m B1 h = omega arith
-bottom-lim C nd m (B2 b) h = omega arith
-bottom-lim C nd m (B3 b) h = omega (arith, h .0)
-bottom-lim C nd m (B4 b x) h = omega (arith, h .0)
-bottom-lim C nd m (B5 b x t g) h = omega (arith, h .0)
-bottom-lim C nd m (B6 b x t g) h = omega (arith, h .0)
-bottom-lim C nd m (B7 b x t g) h = omega (arith, h .0)
-
-pub bottom-pushed : (f : Sizes) (s : State) → Inv f s → Room f s → (q : ℕ) → q < processes f → queueAt (s .bench) q .word .bottom ≤ counted Pushed (s .log) q
-bottom-pushed f s h j q lt =
-    omega (arith, j .room q lt, bottom-lim (f .size) (seat s q .node) (memoryAt s q) (seat s q .stage) (h .queues q lt .ctl .at))
