@@ -1,12 +1,14 @@
 -- Laws of bytes: numbers of two bytes and back, parts, lists that are bytes, and what putting bytes into a buffer does.
 use Prim.Native.Nat.{ℕ, zero, suc, _+_, _/_, _%_, _≤_, _<_}
-use mathlib.Core.Path.{_≡_, _∙_}
+use mathlib.Core.Path.{_≡_, refl, _∙_}
 use mathlib.Core.List.{List, [], _∷_, _++_}
 use native.Mathlib.Omega.{arith}
 use native.Mathlib.Nat.{div-add-mod'}
-use borrow.Author.Tests.{le-leb, lt-leb}
-use lib.ListN.{length, getD, drop, length-append, length-drop}
+use borrow.Author.Tests.{le-leb, lt-leb, leb-true}
+use lib.Dec.{leb}
+use lib.ListN.{length, getD, take, drop, length-append, length-drop}
 use lib.Seq.{paste, take-length, getD-take, getD-drop, length-take-le, drop-append-add, take-append-seam}
+use Rattle.base.proofs.Cases.{either-way}
 use Rattle.base.specs.Bytes.{Byte, Two, Bytes, part, joined, numberAt, pair, putAt}
 
 -- a number from its two bytes, and its two bytes from it
@@ -68,3 +70,17 @@ put-whole at bytes buffer n l e k h = e ∙ rw (k, le-leb (at + length bytes) (l
 pub put-after : (front bytes rest : List ℕ) → length bytes ≤ length rest → putAt (length front) bytes (front ++ rest) ≡ front ++ bytes ++ drop (length bytes) rest
 put-after front bytes rest h =
     rw (le-leb (length front + length bytes) (length (front ++ rest)) (omega (arith, length-append front rest)), take-append-seam front rest, drop-append-add front rest (length bytes))
+
+-- nothing is lost and nothing added
+pub put-same-length : (at : ℕ) (bytes buffer : List ℕ) → length (putAt at bytes buffer) ≡ length buffer
+put-same-length at bytes buffer =
+    either-way (λ (l : List ℕ). length l ≡ length buffer) (leb (at + length bytes) (length buffer))
+    (λ e. let k = leb-true (at + length bytes) (length buffer) e in
+    omega (
+      arith,
+      length-append (take at buffer ++ bytes) (drop (at + length bytes) buffer),
+      length-append (take at buffer) bytes,
+      length-take-le at buffer (omega arith),
+      length-drop (at + length bytes) buffer,
+    ))
+    (λ e. refl)

@@ -26,6 +26,6 @@ byte-at bytes at r r′ = one-value
 pub number-at : (bytes : List ℕ) (at r r′ : ℕ) → r ≡ numberAt bytes at → r′ ≡ numberAt bytes at → r ≡ r′
 number-at bytes at r r′ = one-value
 
--- the buffer at exit
+-- the buffer at exit, of put and put_numbers
 pub put : (at : ℕ) (bytes buffer r r′ : List ℕ) → r ≡ putAt at bytes buffer → r′ ≡ putAt at bytes buffer → r ≡ r′
 put at bytes buffer r r′ = one-value

@@ -89,3 +89,21 @@ pub fn put(buffer: &mut [u8], at: usize, bytes: &[u8])
         i = i + 1;
     }
 }
+
+// The same of two-byte numbers.
+pub fn put_numbers(buffer: &mut [u16], at: usize, numbers: &[u16])
+    ensures { λ _. ⌜ now (buffer .exit) ≡ putAt at (now (numbers .entry)) (now (buffer .entry)) ⌝ }
+{
+    if buffer.len() < at {
+        return;
+    }
+    if buffer.len() - at < numbers.len() {
+        return;
+    }
+    let mut i: usize = 0;
+    while i < numbers.len() {
+        let place = at + i;
+        buffer[place] = numbers[i];
+        i = i + 1;
+    }
+}

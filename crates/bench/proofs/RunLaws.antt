@@ -6,10 +6,9 @@ use mathlib.Core.Logic.{_⊎_, inl, inr}
 use mathlib.Core.List.{List, [], _∷_, _++_}
 use native.Mathlib.Omega.{arith}
 use native.Mathlib.Decide.{decLt}
-use borrow.Author.Tests.{leb-true, ltb-true, ltb-false}
-use lib.Dec.{ltb, leb}
+use borrow.Author.Tests.{ltb-true, ltb-false}
+use lib.Dec.{ltb}
 use lib.ListN.{length, getD, take, drop, length-append, length-drop, take-append-drop, drop-of-length-le, replicate, getD-replicate}
-use lib.Seq.{length-take-le}
 use Rattle.base.specs.Bytes.{putAt}
 use Rattle.log.specs.Encode.{entryBytes}
 use Rattle.log.specs.declared.Entry.{Entry}
@@ -31,7 +30,8 @@ use Rattle.runs.specs.State.{Bench, State, processAt}
 use Rattle.runs.specs.Run.{lowest, close, closingSteps}
 use Rattle.runs.specs.Turn.{turn}
 use Rattle.runs.proofs.ClosingLaws.{lowest-busy}
-use Rattle.base.proofs.Cases.{either-way, never, ever}
+use Rattle.base.proofs.Bytes.{put-same-length}
+use Rattle.base.proofs.Cases.{never, ever}
 use Rattle.runs.proofs.TurnLaws.{CountedAfter, counted-turn}
 
 -- a step of the program carries on what the program stands for
@@ -72,13 +72,6 @@ pub sound-held : (f : Sizes) (n : ℕ) (log₀ : List ℕ) (s : State) (b : Held
     → Sound f (stateIn (f .size) b flat)
 sound-held f n log₀ s b flat log g v =
     subst (Sound f) (λ i. record { bench = sym (g .bench) i; slots = sym (g .slots) i; log = [] }) (sound-as f s v (s .bench .steps) (s .bench .gone) [])
-
-pub put-same-length : (at : ℕ) (bytes buffer : List ℕ) → length (putAt at bytes buffer) ≡ length buffer
-put-same-length at bytes buffer =
-    either-way (λ (l : List ℕ). length l ≡ length buffer) (leb (at + length bytes) (length buffer))
-    (λ e. let k = leb-true (at + length bytes) (length buffer) e in
-    omega (arith, length-append (take at buffer ++ bytes) (drop (at + length bytes) buffer), length-append (take at buffer) bytes, length-take-le at buffer (omega arith), length-drop (at + length bytes) buffer))
-    (λ e. refl)
 
 put-length : (n : ℕ) (es : List Entry) (log : List ℕ) → length (putEntries n es log) ≡ length log
 put-length n [] log = refl

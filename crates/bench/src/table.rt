@@ -19,12 +19,7 @@ fn put_row(table: &mut [u16], from: usize, word: Word, part: &[u16])
     table[from] = word.bottom;
     table[from + 1] = word.top;
     table[from + 2] = word.tag;
-    let at = from + 3;
-    let mut i: usize = 0;
-    while i < part.len() {
-        table[at + i] = part[i];
-        i = i + 1;
-    }
+    base::put_numbers(table, from + 3, part);
 }
 
 // The rest of the table is 0: the slots at and above C, and the queues that no process owns.

@@ -5,8 +5,8 @@ use mathlib.Core.List.{List, [], _∷_, _++_}
 use Prim.Native.Nat.{ℕ, zero, suc, _+_, _-_, _≤_, _<_}
 use native.Mathlib.Numerals.{add-one}
 use native.Mathlib.Omega.{arith}
-use lib.ListN.{length, getD, set, take, drop, replicate, length-set}
-use lib.Seq.{slice, slice-empty, paste-suc, take-nil}
+use lib.ListN.{length, set, take, drop, replicate, length-set}
+use lib.Seq.{slice, slice-empty, take-nil}
 use Rattle.log.specs.declared.Entry.{Entry}
 use Rattle.log.specs.Numbers.{what}
 use Rattle.log.specs.Decode.{entryCountOf, entryAt}
@@ -80,14 +80,6 @@ module _ (f : ℕ → Entry) (n : ℕ) (keys : List ℕ) (count : ℕ) (o : Orde
     high = omega (arith, h .high, o .few);
     long = h .long;
   }
-
--- the first i of s in front of what is left of d: one more
-pub copied-next : (s d : List ℕ) (i : ℕ) → i < length s → i < length d → set (take i s ++ drop i d) i (getD s i 0) ≡ take (i + 1) s ++ drop (i + 1) d
-copied-next s d i u v =
-    let e : i ≡ 0 + i = omega arith in
-    let g : 0 + suc i ≡ suc i = omega arith in
-    ap (λ (k : ℕ). set (take i s ++ drop k d) k (getD s i 0)) e ∙ paste-suc d 0 s i 0 (omega arith) u ∙ ap (λ (k : ℕ). take (suc i) s ++ drop k d) g
-    ∙ ap (λ (k : ℕ). take k s ++ drop k d) (sym (add-one i))
 
 -- a part of a row, cut in the other order
 pub part-is : (row : List ℕ) (lo hi : ℕ) → lo ≤ hi → take (hi - lo) (drop lo row) ≡ slice lo hi row

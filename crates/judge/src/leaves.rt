@@ -1,8 +1,7 @@
 // What is left in a queue: its calls by rising moment, from an empty row. The nodes lie from lo, the top, up to hi, and the ends are 65,536 × hi + lo.
 ghost use mathlib.Core.Path.{_≡_};
-ghost use mathlib.Core.List.{_++_};
 ghost use Prim.Native.Nat.{_≤_};
-ghost use lib.ListN.{length, drop};
+ghost use lib.ListN.{length};
 ghost use Rattle.log.specs.Decode.{entryAt};
 ghost use Rattle.rules.specs.Left.{Leaves};
 ghost use Rattle.judge.specs.inner.Order.{Ordered, Whole};
@@ -49,18 +48,6 @@ fn replayed(
     ends
 }
 
-// Puts some nodes in front of others.
-fn put(part: &[u16], nodes: &mut [u16; 256])
-    requires { ⌜ (length (now part) ≤ 256) × (length (now nodes) ≡ 256) ⌝ }
-    ensures { λ _. ⌜ now (nodes .exit) ≡ now (part .entry) ++ drop (length (now (part .entry))) (now (nodes .entry)) ⌝ }
-{
-    let mut i: usize = 0;
-    while i < part.len() {
-        nodes[i] = part[i];
-        i = i + 1;
-    }
-}
-
 // The nodes that a log leaves in a queue, top first, and 0 after them; of any bytes.
 pub fn left(log: &[u8], queue: u8, nodes: &mut [u16; 256]) -> Remaining
     ensures { λ r. ⌜ Leaves (now (log .entry)) queue (r .number) (r .count) (now (nodes .exit)) ⌝ }
@@ -82,7 +69,7 @@ pub fn left(log: &[u8], queue: u8, nodes: &mut [u16; 256]) -> Remaining
     let lo = ends % UPPER;
     let hi = ends / UPPER;
     let count = hi - lo;
-    put(&row[lo..hi], nodes);
+    base::put_numbers(nodes, 0, &row[lo..hi]);
     Remaining {
         number: 0,
         count: count as u16,

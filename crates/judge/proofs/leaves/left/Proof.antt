@@ -1,10 +1,12 @@
 -- `judge::leaves::left` meets its contract: the judge's number where the log's calls have no order, else the nodes that the replay leaves.
 use mathlib.Core.Path.{_≡_, refl, sym, ap, _∙_, subst}
+use mathlib.Core.List.{[]}
 use Prim.Native.Nat.{ℕ, _-_, _≤_}
 use native.Mathlib.Omega.{arith}
 use borrow.Author.Needs.{needs}
-use lib.ListN.{length, take, drop, length-take}
+use lib.ListN.{length, take, drop, replicate}
 use lib.Seq.{length-slice}
+use Rattle.base.proofs.Bytes.{put-after}
 use Rattle.log.specs.Decode.{entryAt}
 use Rattle.rules.specs.Judge.{first3}
 use Rattle.rules.specs.Left.{leftIn}
@@ -50,14 +52,6 @@ replayed-requires c κs =
       refl,
     )
 
-put-requires : tie.Need-put-requires
-put-requires c κs =
-    let z = c .before .before .before .replayed .ensures in
-    let lo = loOf (c .before .before .before .replayed .result) in
-    let hi = hiOf (c .before .before .before .replayed .result) in
-    let row = c .before .before .before .replayed .last .1 .1 .1 .1 .1 .0 in
-    (omega (arith, length-take (hi - lo) (drop lo row), z .high), search needs)
-
 returns-2 : tie.Need-returns-2
 returns-2 c =
     let r = c .before .before .before .before .before .before .before .before .before .before in
@@ -68,7 +62,7 @@ returns-2 c =
     let row = c .before .before .before .before .replayed .last .1 .1 .1 .1 .1 .0 in
     let part = part-is row lo hi (z .low) in
     let size : length (take (hi - lo) (drop lo row)) ≡ hi - lo = ap length part ∙ length-slice lo hi row (omega (arith, z .high, z .long)) in
-    rw (c .put .ensures)
+    rw (c .put-numbers .ensures ∙ put-after [] (take (hi - lo) (drop lo row)) (replicate {A = ℕ} 256 0) (omega (arith, size, z .high)))
     (leaves-some (a .log .now) (a .queue) (r .before .before .judge .result) (r .before .before .judge .ensures) (r .before .if1 .left)
     (take (hi - lo) (drop lo row)) (hi - lo)
     (part ∙ z .holds ∙ ap (λ (n : ℕ). leftIn (entryAt (a .log .now)) n (a .queue)) (r .number-at .ensures))
@@ -90,6 +84,6 @@ left-spec =
     (λ c. search needs)
     (λ c. search needs)
     (λ c. search needs)
-    put-requires
+    (λ c κs. search needs)
     (λ c. search needs)
     returns-2)
