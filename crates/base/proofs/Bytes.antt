@@ -63,11 +63,13 @@ pair-bytes x h = one-more (x / 256) (x % 256 ∷ []) (high-fits x h) (one-more (
 pub put-none : (at : ℕ) (bytes buffer : List ℕ) → length buffer < at + length bytes → buffer ≡ putAt at bytes buffer
 put-none at bytes buffer h = rw (lt-leb (at + length bytes) (length buffer) h)
 
-pub put-whole : (at : ℕ) (bytes buffer : List ℕ) (n : ℕ) (l : List ℕ) → l ≡ paste buffer at bytes n → n ≡ length bytes → at + length bytes ≤ length buffer → l ≡ putAt at bytes buffer
+pub put-whole : (at : ℕ) (bytes buffer : List ℕ) (n : ℕ) (l : List ℕ) → l ≡ paste buffer at bytes n → n ≡ length bytes
+    → at + length bytes ≤ length buffer → l ≡ putAt at bytes buffer
 put-whole at bytes buffer n l e k h = e ∙ rw (k, le-leb (at + length bytes) (length buffer) h, take-length bytes)
 
 -- where everything up to a place is known, what is put there follows it
-pub put-after : (front bytes rest : List ℕ) → length bytes ≤ length rest → putAt (length front) bytes (front ++ rest) ≡ front ++ bytes ++ drop (length bytes) rest
+pub put-after : (front bytes rest : List ℕ) → length bytes ≤ length rest
+    → putAt (length front) bytes (front ++ rest) ≡ front ++ bytes ++ drop (length bytes) rest
 put-after front bytes rest h =
     rw (le-leb (length front + length bytes) (length (front ++ rest)) (omega (arith, length-append front rest)), take-append-seam front rest, drop-append-add front rest (length bytes))
 

@@ -48,7 +48,11 @@ module _ (P C : ℕ) (es : List Entry) (log₀ : List ℕ) (h : 5 + 12 * length 
   with-head l k = rw (le-leb (0 + 5) (length l) (omega arith))
 
   -- the buffer with entries and head is the log, and then what it held
-  pub log-bytes : putAt 0 (headBytes P C (length es)) (putEntries 0 es log₀) ≡ logBytes (record { P = P; C = C; entries = es }) ++ drop (5 + 12 * length es) log₀
+  pub log-bytes : putAt 0 (headBytes P C (length es)) (putEntries 0 es log₀) ≡ logBytes (record {
+    P = P;
+    C = C;
+    entries = es;
+  }) ++ drop (5 + 12 * length es) log₀
   unfolding logBytes
   log-bytes =
       let rest = drop (12 * length es) (drop 5 log₀) in
@@ -71,7 +75,9 @@ finished-gives f s buffer b flat log written buffer′ report table h room g = r
       ∙ ap (putAt 0 (headBytes P (f .size) (length (s .log)))) (h .bytes)
       ∙ log-bytes P (f .size) (s .log) buffer room
       ∙ ap (λ (n : ℕ). logBytes whole ++ drop n buffer) (sym (length-log whole));
-  counts = g .counts ∙ ap (λ (n : ℕ). 0 ∷ n ∷ b .steps ∷ b .gone ∷ []) count ∙ ap (λ (x : Bench). 0 ∷ length (s .log) ∷ x .steps ∷ x .gone ∷ []) (h .bench);
+  counts =
+      g .counts ∙ ap (λ (n : ℕ). 0 ∷ n ∷ b .steps ∷ b .gone ∷ []) count
+      ∙ ap (λ (x : Bench). 0 ∷ length (s .log) ∷ x .steps ∷ x .gone ∷ []) (h .bench);
   queues =
       g .queues ∙ ap (λ (x : Bench). listOf tableSize (tableAt P x (slotsIn (f .size) flat))) (h .bench)
       ∙ ap (λ (l : List (List ℕ)). listOf tableSize (tableAt P (s .bench) l)) (h .slots);

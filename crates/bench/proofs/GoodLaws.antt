@@ -13,7 +13,8 @@ use Rattle.base.specs.Lists.{listOf}
 use Rattle.base.proofs.Lists.{listOf-getD}
 use Rattle.runfile.specs.Encode.{InRanges}
 use Rattle.base.specs.Bytes.{Bytes}
-use Rattle.runfile.specs.File.{RunFile, good, fileOf, readingOf, shapeOf, recordIn, processesIn, callsIn, stepsIn, stepPlace, firstLengths, firstCalls}
+use Rattle.runfile.specs.File.{RunFile, good, fileOf, readingOf, shapeOf, recordIn, processesIn, callsIn, stepsIn, stepPlace, firstLengths}
+use Rattle.runfile.specs.File.{firstCalls}
 use Rattle.runfile.proofs.GoodLaws.{good-passes, shares-length, all-calls-length, schedule-length}
 use Rattle.runfile.proofs.RangeLaws.{good-ranges}
 use Rattle.runfile.proofs.ReadingLaws.{reading-good, reading-refused}
@@ -52,7 +53,8 @@ unfolding close
 close-later W C zero s = later-none s
 close-later W C (suc k) s = by-test (ltb (lowest (s .bench .processes)) 8) refl (close-later W C k)
   where
-    by-test : (t : Bool) → ltb (lowest (s .bench .processes)) 8 ≡ t → ((x : State) → close W C k x ≡ later x (close W C k (bare x))) → close W C (suc k) s ≡ later s (close W C (suc k) (bare s))
+    by-test : (t : Bool) → ltb (lowest (s .bench .processes)) 8 ≡ t → ((x : State) → close W C k x ≡ later x (close W C k (bare x)))
+        → close W C (suc k) s ≡ later s (close W C (suc k) (bare s))
     by-test true e more =
         let p = lowest (s .bench .processes) in
         let r = processAt (s .bench) p in
@@ -89,10 +91,12 @@ start-counted shares = record {
 
     idle : (p : ℕ) → Dec (p < 8) → getD (listOf 8 (scripted shares)) p nobody .b2 ≤ 0
     idle p (yes h) = subst (λ (r : Process). r .b2 ≤ 0) (sym (listOf-getD 8 (scripted shares) nobody p h)) (omega arith)
-    idle p (no h) = subst (λ (r : Process). r .b2 ≤ 0) (sym (List·getD-eq-default (listOf 8 (scripted shares)) nobody {n = p} (omega arith))) (omega arith)
+    idle p (no h) =
+        subst (λ (r : Process). r .b2 ≤ 0) (sym (List·getD-eq-default (listOf 8 (scripted shares)) nobody {n = p} (omega arith))) (omega arith)
 
 played-kept : (f : RunFile) → Kept 0 (played f)
-played-kept f = play-keeps Kept (f .width) (f .size) (f .calls) (turn-kept (f .width) (f .size) (f .calls)) (f .schedule) 0 (start f) (start-counted (f .shares))
+played-kept f =
+    play-keeps Kept (f .width) (f .size) (f .calls) (turn-kept (f .width) (f .size) (f .calls)) (f .schedule) 0 (start f) (start-counted (f .shares))
 
 closed-kept : (f : RunFile) → Kept 0 (closed f)
 closed-kept f = closed-keeps f Kept (turn-kept (f .width) (f .size) (f .calls)) (closing-kept (f .width) (f .size)) (start-counted (f .shares)) .holds
@@ -110,13 +114,16 @@ room t k e a b c = omega arith
 zeros : (C k n : ℕ) → k + C ≤ n → take C (drop k (replicate {A = ℕ} n 0)) ≡ replicate C 0
 zeros C k n h =
     let whole = length-replicate {A = ℕ} n 0 in
-    let l : length (take C (drop k (replicate {A = ℕ} n 0))) ≡ C = length-take-le C (drop k (replicate {A = ℕ} n 0)) (simp length-drop (omega arith)) in
+    let l : length (take C (drop k (replicate {A = ℕ} n 0))) ≡ C =
+    length-take-le C (drop k (replicate {A = ℕ} n 0)) (simp length-drop (omega arith)) in
     ext-getD 0 (take C (drop k (replicate {A = ℕ} n 0))) (replicate C 0) (l ∙ sym (length-replicate C 0))
     (λ i m. getD-take C (drop k (replicate {A = ℕ} n 0)) i 0 (omega arith) ∙ getD-drop k (replicate {A = ℕ} n 0) i 0
     ∙ getD-replicate n (k + i) 0 0 (omega arith) ∙ sym (getD-replicate C i 0 0 (omega arith)))
 
 slots-start : (C : ℕ) → C ≤ 64 → slotsIn C (replicate 512 0) ≡ replicate 8 (replicate C 0)
-slots-start C h = λ i. row 0 (omega arith) i ∷ row 1 (omega arith) i ∷ row 2 (omega arith) i ∷ row 3 (omega arith) i ∷ row 4 (omega arith) i ∷ row 5 (omega arith) i ∷ row 6 (omega arith) i ∷ row 7 (omega arith) i ∷ []
+slots-start C h =
+    λ i. row 0 (omega arith) i ∷ row 1 (omega arith) i ∷ row 2 (omega arith) i ∷ row 3 (omega arith) i ∷ row 4 (omega arith) i ∷ row 5
+    (omega arith) i ∷ row 6 (omega arith) i ∷ row 7 (omega arith) i ∷ []
   where
     row : (q : ℕ) → q < 8 → slotsOf C (replicate 512 0) q ≡ replicate C 0
     row q k = zeros C (C * q) 512 (row-in C q h k)
@@ -183,7 +190,9 @@ module _ (s : List ℕ) (bytes : Bytes s) (shape : Shape) (e : readingOf (fileOf
 
   module _ (from : ℕ) (place : from ≡ stepPlace (shape .processes) (shape .calls) 0) where
     at : from ≡ stepPlace (processesIn s) (callsIn s) 0
-    at = place ∙ ap (λ (x : Shape). stepPlace (x .processes) (x .calls) 0) is-shape ∙ ap (λ (n : ℕ). stepPlace n (length (f .calls)) 0) processes ∙ ap (λ (n : ℕ). stepPlace (processesIn s) n 0) calls
+    at =
+        place ∙ ap (λ (x : Shape). stepPlace (x .processes) (x .calls) 0) is-shape ∙ ap (λ (n : ℕ). stepPlace n (length (f .calls)) 0) processes
+        ∙ ap (λ (n : ℕ). stepPlace (processesIn s) n 0) calls
 
     pub schedule-fits : from + shape .steps ≤ length s
     schedule-fits = omega (arith, at, steps, good-passes s f is-good .0 .whole)
@@ -193,7 +202,9 @@ module _ (s : List ℕ) (bytes : Bytes s) (shape : Shape) (e : readingOf (fileOf
     schedule = take (from + shape .steps - from) (drop from s)
 
     schedule-is : schedule ≡ f .schedule
-    schedule-is = let n : from + shape .steps - from ≡ stepsIn s = omega (arith, steps) in ap (λ (k : ℕ). take k (drop from s)) n ∙ ap (λ (k : ℕ). take (stepsIn s) (drop k s)) at
+    schedule-is =
+        let n : from + shape .steps - from ≡ stepsIn s = omega (arith, steps) in ap (λ (k : ℕ). take k (drop from s)) n
+        ∙ ap (λ (k : ℕ). take (stepsIn s) (drop k s)) at
 
     below : (k : ℕ) → k < length schedule → getD schedule k 0 < shape .processes
     below = subst (λ (l : List ℕ). (k : ℕ) → k < length l → getD l k 0 < shape .processes) (sym schedule-is)
@@ -206,8 +217,11 @@ module _ (s : List ℕ) (bytes : Bytes s) (shape : Shape) (e : readingOf (fileOf
       pub to-walk : ToWalk shape schedule b₀ (replicate 512 0)
       to-walk = record {
         whole = z .2;
-        counted = subst (λ (m : ℕ). Counted m (benchIn b₀)) (sym (z .1)) (subst (Counted 0) (sym d) (start-counted (firstLengths s (shape .processes))));
-        left = subst (λ (x : State). total (x .bench .processes) + b₀ .entries ≤ shape .calls) (sym (starts b₀ d)) (room _ 0 (b₀ .entries) (start-bounded f) (z .1) all-calls);
+        counted =
+            subst (λ (m : ℕ). Counted m (benchIn b₀)) (sym (z .1)) (subst (Counted 0) (sym d) (start-counted (firstLengths s (shape .processes))));
+        left =
+            subst (λ (x : State). total (x .bench .processes) + b₀ .entries ≤ shape .calls) (sym (starts b₀ d))
+            (room _ 0 (b₀ .entries) (start-bounded f) (z .1) all-calls);
         few = omega (arith, ap (λ (x : Bench). x .steps) d, ap length schedule-is, in-ranges .steps);
         all-slots = length-replicate {A = ℕ} 512 0;
         fit = fits;
@@ -227,7 +241,9 @@ module _ (s : List ℕ) (bytes : Bytes s) (shape : Shape) (e : readingOf (fileOf
       module _ (log₀ : List ℕ) (b₁ : HeldBench) (flat₁ log₁ : List ℕ)
           (g : Becomes C (b₀ .entries) log₀ (walked false W C (firstCalls s (shape .processes) (shape .calls)) schedule (stateIn C b₀ (replicate 512 0))) b₁ flat₁ log₁) where
         becomes-played : Becomes C 0 log₀ (played f) b₁ flat₁ log₁
-        becomes-played = subst (λ (n : ℕ). Becomes C n log₀ (played f) b₁ flat₁ log₁) (z .1) (subst (λ (x : State). Becomes C (b₀ .entries) log₀ x b₁ flat₁ log₁) plays g)
+        becomes-played =
+            subst (λ (n : ℕ). Becomes C n log₀ (played f) b₁ flat₁ log₁) (z .1)
+            (subst (λ (x : State). Becomes C (b₀ .entries) log₀ x b₁ flat₁ log₁) plays g)
 
         played-state : StateOf f (played f)
         unfolding close
@@ -247,7 +263,8 @@ module _ (s : List ℕ) (bytes : Bytes s) (shape : Shape) (e : readingOf (fileOf
               (subst (λ (x : Sizes). Sound x (played f)) (sym sizes-are) (sound f in-ranges (played f) played-state));
         }
 
-        module _ (b₂ : HeldBench) (flat₂ log₂ : List ℕ) (k : Becomes C (b₁ .entries) log₁ (close W C closingSteps (stateIn C b₁ flat₁)) b₂ flat₂ log₂) where
+        module _ (b₂ : HeldBench) (flat₂ log₂ : List ℕ)
+            (k : Becomes C (b₁ .entries) log₁ (close W C closingSteps (stateIn C b₁ flat₁)) b₂ flat₂ log₂) where
           pub becomes-closed : Becomes C 0 log₀ (closed f) b₂ flat₂ log₂
           unfolding closed
           becomes-closed =

@@ -30,5 +30,7 @@ module _ (C n : ℕ) (log : List ℕ) (s : State) (b : HeldBench) (flat log′ :
 pub every-state-held : EveryStateHeld
 every-state-held C n log s b flat log′ h = record {
   words = λ q. word C n log s b flat log′ h q (decLt q 8);
-  slots = λ q i l k. sym (slot C flat q i k) ∙ ap (λ (r : List ℕ). getD r i 0) (sym (slots-get C flat q l)) ∙ ap (λ (x : List (List ℕ)). getD (getD x q []) i 0) (h .slots);
+  slots =
+      λ q i l k. sym (slot C flat q i k) ∙ ap (λ (r : List ℕ). getD r i 0) (sym (slots-get C flat q l))
+      ∙ ap (λ (x : List (List ℕ)). getD (getD x q []) i 0) (h .slots);
 }

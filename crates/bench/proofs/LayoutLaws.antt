@@ -102,7 +102,8 @@ module _ (C q : ℕ) (flat row : List ℕ) (whole : length flat ≡ 512) (small 
   slots-put =
       let n = listOf-length 8 (slotsOf C changed) in
       let m = listOf-length 8 (slotsOf C flat) in
-      ext-getD [] (slotsIn C changed) (set (slotsIn C flat) q row) (n ∙ sym (length-set (slotsIn C flat) q row ∙ m)) (λ i l. split i (omega arith) (ℕ-discrete i q))
+      ext-getD [] (slotsIn C changed) (set (slotsIn C flat) q row) (n ∙ sym (length-set (slotsIn C flat) q row ∙ m))
+      (λ i l. split i (omega arith) (ℕ-discrete i q))
     where
       split : (i : ℕ) → i < 8 → Dec (i ≡ q) → getD (slotsIn C changed) i [] ≡ getD (set (slotsIn C flat) q row) i []
       split i l (yes p) =
@@ -122,11 +123,13 @@ module _ (W C : ℕ) (w : PackedWord) (flat : List ℕ) (q : ℕ) (z : Stage) (r
   on-part row whole h small d =
       let e : C * q + C - C * q ≡ C = omega arith in
       let t : StepPacked W C w (slotsOf C flat q) z r row = subst (λ (n : ℕ). StepPacked W C w (take n (drop (C * q) flat)) z r row) e d in
-      let k : row ≡ stored (slotsOf C flat q) (r .store) = t .unpacks .kept ∙ ap (λ (o : Stepped). stored (slotsOf C flat q) (o .store)) (sym (t .unpacks .stepped)) in
+      let k : row ≡ stored (slotsOf C flat q) (r .store) = t .unpacks .kept
+      ∙ ap (λ (o : Stepped). stored (slotsOf C flat q) (o .store)) (sym (t .unpacks .stepped)) in
       let l = stored-length (slotsOf C flat q) (r .store) in
       record {
         stepped = rw (slots-get C flat q h) (t .unpacks .stepped);
-        slots = rw (e, slots-get C flat q h) (slots-put C q flat row whole small h (ap length k ∙ l ∙ slots-length C flat q (omega (arith, row-in C q small h))) ∙ ap (set (slotsIn C flat) q) k);
+        slots =
+            rw (e, slots-get C flat q h) (slots-put C q flat row whole small h (ap length k ∙ l ∙ slots-length C flat q (omega (arith, row-in C q small h))) ∙ ap (set (slotsIn C flat) q) k);
       }
 
 -- entries put into a log, in two parts
@@ -162,7 +165,8 @@ module _ {A : Type 0} (d : A) (l : List A) (i : ℕ) (x : A) where
   pub put-none : getD l i d ≡ x → Put d l l i x
   put-none e = record { here = e; other = λ j ne. refl }
 
-listOf-put : {A : Type 0} (f g : ℕ → A) (d : A) (n i : ℕ) (x : A) → i < n → g i ≡ x → ((j : ℕ) → (j ≡ i → ⊥) → g j ≡ f j) → listOf n g ≡ set (listOf n f) i x
+listOf-put : {A : Type 0} (f g : ℕ → A) (d : A) (n i : ℕ) (x : A) → i < n → g i ≡ x → ((j : ℕ) → (j ≡ i → ⊥) → g j ≡ f j)
+    → listOf n g ≡ set (listOf n f) i x
 listOf-put {A} f g d n i x lt e o =
     ext-getD d (listOf n g) (set (listOf n f) i x) (listOf-length n g ∙ sym (length-set (listOf n f) i x ∙ listOf-length n f))
     (λ j m. split j (omega (arith, listOf-length n g)) (ℕ-discrete j i))
@@ -189,4 +193,5 @@ module _ (b b′ : HeldBench) (p q : ℕ) (w : PackedWord) (n : ℕ) (z : HeldPr
 
   pub processes-changed : p < 8 → benchIn b′ .processes ≡ set (benchIn b .processes) p (processIn z)
   processes-changed lt =
-      listOf-put (recordIn b) (recordIn b′) nobody 8 p (processIn z) lt (ap processIn (h .processes .here)) (λ j ne. ap processIn (h .processes .other j ne))
+      listOf-put (recordIn b) (recordIn b′) nobody 8 p (processIn z) lt (ap processIn (h .processes .here))
+      (λ j ne. ap processIn (h .processes .other j ne))

@@ -59,7 +59,8 @@ module _ (W C : ℕ) (calls : List Call) where
   unfolding walkedOne
   walk-idle p s e = rw e
 
-  walk-busy : (p : ℕ) (s : State) → isIdle (processAt (s .bench) p .stage) ≡ false → walkedOne true W C calls p s ≡ act W C p (processAt (s .bench) p) s
+  walk-busy : (p : ℕ) (s : State) → isIdle (processAt (s .bench) p .stage) ≡ false
+      → walkedOne true W C calls p s ≡ act W C p (processAt (s .bench) p) s
   unfolding walkedOne
   walk-busy p s e = rw e
 
@@ -81,12 +82,14 @@ module _ (W C : ℕ) (calls : List Call) where
   unfolding walked
   walked-keeps Q closing P t [] below s h = h
   walked-keeps Q closing P t (p ∷ ps) below s h =
-      walked-keeps Q closing P t ps (λ k lt. below (suc k) (omega arith)) (walkedOne closing W C calls p s) (walk-keeps Q closing p s h (t p (below 0 (omega arith)) s h))
+      walked-keeps Q closing P t ps (λ k lt. below (suc k) (omega arith)) (walkedOne closing W C calls p s)
+      (walk-keeps Q closing p s h (t p (below 0 (omega arith)) s h))
 
   turn-step : (p : ℕ) (s : State) → turn W C calls p s .bench .steps ≡ s .bench .steps + 1
   unfolding turn turnAs act
   turn-step p s =
-      either-way (λ (x : State). x .bench .steps ≡ s .bench .steps + 1) (isIdle (ready calls (s .bench .steps) (processAt (s .bench) p) .stage)) (λ e. refl) (λ e. refl)
+      either-way (λ (x : State). x .bench .steps ≡ s .bench .steps + 1) (isIdle (ready calls (s .bench .steps) (processAt (s .bench) p) .stage))
+      (λ e. refl) (λ e. refl)
 
   pub walk-step : (closing : Bool) (p : ℕ) (s : State) → walkedOne closing W C calls p s .bench .steps ≤ s .bench .steps + 1
   walk-step closing p s = walk-keeps (λ x. x .bench .steps ≤ s .bench .steps + 1) closing p s (omega arith) (omega (arith, turn-step p s))
@@ -100,7 +103,8 @@ module _ (W C : ℕ) (calls : List Call) where
       r = ready calls (s .bench .steps) (processAt (s .bench) p)
 
       by-test : (t : Bool) → isIdle (ready calls (s .bench .steps) (processAt (s .bench) p) .stage) ≡ t
-          → cond (isIdle (ready calls (s .bench .steps) (processAt (s .bench) p) .stage)) (idle s) (act W C p (ready calls (s .bench .steps) (processAt (s .bench) p)) s)
+          → cond (isIdle (ready calls (s .bench .steps) (processAt (s .bench) p) .stage)) (idle s)
+          (act W C p (ready calls (s .bench .steps) (processAt (s .bench) p)) s)
           ≡ later s (cond (isIdle (ready calls (s .bench .steps) (processAt (s .bench) p) .stage)) (idle (bare s)) (act W C p (ready calls (s .bench .steps) (processAt (s .bench) p)) (bare s)))
       by-test true e = rw e (λ i. record { bench = idle s .bench; slots = s .slots; log = sym (append-nil (s .log)) i })
       by-test false e = rw e refl
@@ -122,7 +126,8 @@ module _ (W C : ℕ) (calls : List Call) where
       ∙ later-later s a (walked closing W C calls ps (bare a)) ∙ ap (later s) (sym (walked-later closing ps a))
 
   -- one step more
-  pub walked-append : (closing : Bool) (ps qs : List ℕ) (s : State) → walked closing W C calls (ps ++ qs) s ≡ walked closing W C calls qs (walked closing W C calls ps s)
+  pub walked-append : (closing : Bool) (ps qs : List ℕ) (s : State)
+      → walked closing W C calls (ps ++ qs) s ≡ walked closing W C calls qs (walked closing W C calls ps s)
   unfolding walked
   walked-append closing [] qs s = refl
   walked-append closing (p ∷ ps) qs s = walked-append closing ps qs (walkedOne closing W C calls p s)
@@ -156,8 +161,17 @@ waited closing k s = record {
 }
 
 pub with-steps : (s : State) (n : ℕ) → s .bench .steps ≡ n
-    → s ≡ record { bench = record { queues = s .bench .queues; processes = s .bench .processes; steps = n; gone = s .bench .gone }; slots = s .slots; log = s .log }
-with-steps s n e = λ i. record { bench = record { queues = s .bench .queues; processes = s .bench .processes; steps = e i; gone = s .bench .gone }; slots = s .slots; log = s .log }
+    → s ≡ record {
+      bench = record { queues = s .bench .queues; processes = s .bench .processes; steps = n; gone = s .bench .gone };
+      slots = s .slots;
+      log = s .log;
+    }
+with-steps s n e =
+    λ i. record {
+      bench = record { queues = s .bench .queues; processes = s .bench .processes; steps = e i; gone = s .bench .gone };
+      slots = s .slots;
+      log = s .log;
+    }
 
 module _ (W C : ℕ) (calls : List Call) where
   waits : (closing : Bool) (p : ℕ) (s : State) → total (s .bench .processes) ≤ 0 → walkedOne closing W C calls p s ≡ cond closing s (idle s)
@@ -177,7 +191,8 @@ module _ (W C : ℕ) (calls : List Call) where
       by true = rw i
       by false = rw (i, l, i)
 
-  pub walked-waits : (closing : Bool) (ps : List ℕ) (s : State) → total (s .bench .processes) ≤ 0 → walked closing W C calls ps s ≡ waited closing (length ps) s
+  pub walked-waits : (closing : Bool) (ps : List ℕ) (s : State) → total (s .bench .processes) ≤ 0
+      → walked closing W C calls ps s ≡ waited closing (length ps) s
   unfolding walked
   walked-waits closing [] s h = with-steps s (s .bench .steps + cond closing 0 0) (by closing)
     where
@@ -190,7 +205,8 @@ module _ (W C : ℕ) (calls : List Call) where
       ∙ with-steps (waited false (length ps) (idle s)) (s .bench .steps + suc (length ps)) (omega arith)
 
 -- the closing: the lowest process that is half-done is the one that is stepped, until it is idle
-lowest-is : (l : List Process) (p : ℕ) → ((j : ℕ) → j < p → isIdle (getD l j nobody .stage) ≡ true) → isIdle (getD l p nobody .stage) ≡ false → lowest l ≡ p
+lowest-is : (l : List Process) (p : ℕ) → ((j : ℕ) → j < p → isIdle (getD l j nobody .stage) ≡ true) → isIdle (getD l p nobody .stage) ≡ false
+    → lowest l ≡ p
 lowest-is [] p h e = ever e
 lowest-is (r ∷ l) zero h e = rw e
 lowest-is (r ∷ l) (suc p) h e = rw (h 0 (omega arith)) (ap suc (lowest-is l p (λ j lt. h (suc j) (omega arith)) e))
@@ -203,7 +219,8 @@ lowest-below : (l : List Process) (j : ℕ) → j < lowest l → isIdle (getD l 
 lowest-below [] j h = refl
 lowest-below (r ∷ l) zero h = either-way (λ (n : ℕ). 0 < n → isIdle (r .stage) ≡ true) (isIdle (r .stage)) (λ e k. e) (λ e k. absurd (omega arith)) h
 lowest-below (r ∷ l) (suc j) h =
-    either-way (λ (n : ℕ). suc j < n → isIdle (getD l j nobody .stage) ≡ true) (isIdle (r .stage)) (λ e k. lowest-below l j (omega arith)) (λ e k. absurd (omega arith)) h
+    either-way (λ (n : ℕ). suc j < n → isIdle (getD l j nobody .stage) ≡ true) (isIdle (r .stage)) (λ e k. lowest-below l j (omega arith))
+    (λ e k. absurd (omega arith)) h
 
 idle-left : (z : Stage) → isIdle z ≡ true → stepsLeft z ≤ 0
 idle-left z e = subst (λ (y : Stage). stepsLeft y ≤ 0) (sym (idle-is z e)) (omega arith)
@@ -221,10 +238,12 @@ pub record Part (W C : ℕ) (s₀ : State) (most p left : ℕ) (s : State) : Typ
 module _ (W C : ℕ) (s₀ : State) where
   pub part-start : length (s₀ .bench .processes) ≡ 8 → ((j : ℕ) → stepsLeft (processAt (s₀ .bench) j .stage) ≤ 6) → Part W C s₀ 0 0 6 s₀
   unfolding close
-  part-start eight six = record { made = 0; few = omega arith; is = refl; eight = eight; below = λ j lt. absurd (omega arith); here = six 0; six = six }
+  part-start eight six =
+      record { made = 0; few = omega arith; is = refl; eight = eight; below = λ j lt. absurd (omega arith); here = six 0; six = six }
 
   -- where all are idle the closing is over
-  pub part-over : (most p left : ℕ) (s : State) → Part W C s₀ most p left s → most ≤ closingSteps → lowest (s .bench .processes) ≡ 8 → s ≡ close W C closingSteps s₀
+  pub part-over : (most p left : ℕ) (s : State) → Part W C s₀ most p left s → most ≤ closingSteps → lowest (s .bench .processes) ≡ 8
+      → s ≡ close W C closingSteps s₀
   part-over most p left s h few e =
       let k : h .made + (48 - h .made) ≡ 48 = omega (arith, h .few) in
       h .is ∙ sym (close-early W C (h .made) (48 - h .made) s₀
@@ -236,7 +255,8 @@ module _ (W C : ℕ) (s₀ : State) where
     where
       idle-at : (j : ℕ) → Dec (j < 8) → isIdle (processAt (s .bench) j .stage) ≡ true
       idle-at j (yes lt) = h .below j lt
-      idle-at j (no ge) = ap (λ (r : Process). isIdle (r .stage)) (List·getD-eq-default (s .bench .processes) nobody {n = j} (omega (arith, h .eight)))
+      idle-at j (no ge) =
+          ap (λ (r : Process). isIdle (r .stage)) (List·getD-eq-default (s .bench .processes) nobody {n = j} (omega (arith, h .eight)))
 
   module _ (calls : List Call) (p : ℕ) (lt : p < 8) where
     part-step : (most left : ℕ) (s : State) → Part W C s₀ most p (suc left) s → Part W C s₀ (suc most) p left (walkedOne true W C calls p s)
@@ -249,7 +269,8 @@ module _ (W C : ℕ) (s₀ : State) where
         lower : stepsLeft (x .stage) ≤ left
         lower = omega (arith, step-lowers W C p (processAt (s .bench) p) s, h .here)
 
-        at : (Q : ℕ → Process → Type 0) → Q p x → ((j : ℕ) → (j ≡ p → ⊥) → Q j (processAt (s .bench) j)) → (j : ℕ) → Q j (getD (set (s .bench .processes) p x) j nobody)
+        at : (Q : ℕ → Process → Type 0) → Q p x → ((j : ℕ) → (j ≡ p → ⊥) → Q j (processAt (s .bench) j)) → (j : ℕ)
+            → Q j (getD (set (s .bench .processes) p x) j nobody)
         at Q a b j = if-set (Q j) (s .bench .processes) p j x nobody (omega (arith, h .eight)) (λ e. subst (λ (k : ℕ). Q k x) (sym e) a) (b j)
 
         by : (i : Bool) → isIdle (processAt (s .bench) p .stage) ≡ i → Part W C s₀ (suc most) p left (walkedOne true W C calls p s)
@@ -269,7 +290,8 @@ module _ (W C : ℕ) (s₀ : State) where
           eight = length-set (s .bench .processes) p x ∙ h .eight;
           below = at (λ j y. j < p → isIdle (y .stage) ≡ true) (λ k. absurd (omega arith)) (λ j ne. h .below j);
           here = rw (getD-set-same (s .bench .processes) p x nobody (omega (arith, h .eight))) lower;
-          six = at (λ j y. stepsLeft (y .stage) ≤ 6) (omega (arith, lower, step-lowers W C p (processAt (s .bench) p) s, h .six p)) (λ j ne. h .six j);
+          six =
+              at (λ j y. stepsLeft (y .stage) ≤ 6) (omega (arith, lower, step-lowers W C p (processAt (s .bench) p) s, h .six p)) (λ j ne. h .six j);
         })
           where
             low : lowest (s .bench .processes) ≡ p
@@ -327,7 +349,8 @@ module _ (W C : ℕ) (s₀ : State) where
             ever (sym (h .below p k) ∙ subst (λ (j : ℕ). isIdle (processAt (s .bench) j .stage) ≡ false) (sym e) (lowest-busy (s .bench .processes) (omega (arith, e, h .eight))))
 
 -- a schedule has at most as many steps as it has entries
-pub walked-steps : (W C : ℕ) (calls : List Call) (closing : Bool) (ps : List ℕ) (s : State) → walked closing W C calls ps s .bench .steps ≤ s .bench .steps + length ps
+pub walked-steps : (W C : ℕ) (calls : List Call) (closing : Bool) (ps : List ℕ) (s : State)
+    → walked closing W C calls ps s .bench .steps ≤ s .bench .steps + length ps
 unfolding walked
 walked-steps W C calls closing [] s = omega arith
 walked-steps W C calls closing (p ∷ ps) s =

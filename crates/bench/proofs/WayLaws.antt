@@ -26,7 +26,8 @@ use Rattle.runs.specs.Turn.{ready, queueAfter, processAfter, entriesIn, benchAf
 use Rattle.runs.specs.inner.Sound.{Sizes, Fit, processes, AllIn, Placed, Sound}
 use Rattle.runs.proofs.Sound.{turning-placed}
 use Rattle.records.specs.inner.Records.{processIn}
-use Rattle.bench.specs.inner.Layout.{freshHeld, idleHeld, queueIn, recordIn, benchIn, Whole, slotsIn, stateIn, StepsIn, putEntries, Becomes, Tells}
+use Rattle.bench.specs.inner.Layout.{freshHeld, idleHeld, queueIn, recordIn, benchIn, Whole, slotsIn, stateIn, StepsIn, putEntries, Becomes}
+use Rattle.bench.specs.inner.Layout.{Tells}
 use Rattle.bench.specs.inner.Walk.{walking, walkedOne}
 use Rattle.bench.proofs.LayoutLaws.{queue-is, process-is, Put, put-set, put-none, Changes, queues-changed, processes-changed}
 use Rattle.bench.proofs.WalkLaws.{waited, with-steps}
@@ -56,7 +57,8 @@ row-resets W C w v (B6 b x t g) = either-way Ends (sameAge w t g) (λ t e. ever 
 row-resets W C w v (B7 b x t g) = λ e. ever e
 
 -- where a call goes on nothing is logged or counted
-going : (p n : ℕ) (r owner : Process) (t resets : ℕ) (next : Next) → isIdle (stageAfter next) ≡ false → (ended p n r owner t next ≡ Nothing) × (goneRound r resets next ≡ 0)
+going : (p n : ℕ) (r owner : Process) (t resets : ℕ) (next : Next) → isIdle (stageAfter next) ≡ false
+    → (ended p n r owner t next ≡ Nothing) × (goneRound r resets next ≡ 0)
 going p n r owner t resets (Going z) e = (refl, refl)
 going p n r owner t resets Done e = ever e
 going p n r owner t resets (Node x) e = ever e
@@ -115,10 +117,13 @@ module _ (f : Sizes) (h : Fit f) (closing : Bool) (calls : List Call) (all : All
   now = d ∙ ap (λ (x : Process). cond closing x (ready calls (b .steps) x)) (sym (process-is b p below))
 
   placed : Placed f p r
-  placed = subst (Placed f p) (sym now) (either-way (Placed f p) closing (λ _. v .each p lt) (λ _. turning-placed f h calls all (stateIn (f .size) b flat) v p lt))
+  placed =
+      subst (Placed f p) (sym now)
+      (either-way (Placed f p) closing (λ _. v .each p lt) (λ _. turning-placed f h calls all (stateIn (f .size) b flat) v p lt))
 
   passes : isIdle (r .stage) ≡ true
-      → walkedOne closing (f .width) (f .size) calls p (stateIn (f .size) b flat) ≡ cond closing (stateIn (f .size) b flat) (idle (stateIn (f .size) b flat))
+      → walkedOne closing (f .width) (f .size) calls p (stateIn (f .size) b flat) ≡ cond closing (stateIn (f .size) b flat)
+      (idle (stateIn (f .size) b flat))
   unfolding walkedOne
   passes i = rw (← now, i)
 
@@ -128,12 +133,15 @@ module _ (f : Sizes) (h : Fit f) (closing : Bool) (calls : List Call) (all : All
   walks i = rw (← now, i)
 
   pub way-idle : isIdle (r .stage) ≡ true → (m : ℕ) → m ≡ cond closing 0 1 → Whole b
-      → Becomes (f .size) (b .entries) log (walkedOne closing (f .width) (f .size) calls p (stateIn (f .size) b flat)) (withSteps b (b .steps + m)) flat log
+      → Becomes (f .size) (b .entries) log (walkedOne closing (f .width) (f .size) calls p (stateIn (f .size) b flat))
+      (withSteps b (b .steps + m)) flat log
   way-idle i m e whole =
-      subst (λ (x : State). Becomes C (b .entries) log x (withSteps b (b .steps + m)) flat log) (sym (waits closing refl)) (becomes-waited C (b .entries) log (stateIn (f .size) b flat) closing 1 m e b flat log
+      subst (λ (x : State). Becomes C (b .entries) log x (withSteps b (b .steps + m)) flat log) (sym (waits closing refl))
+      (becomes-waited C (b .entries) log (stateIn (f .size) b flat) closing 1 m e b flat log
       (record { whole = whole; bench = refl; count = omega arith; slots = refl; bytes = refl }))
     where
-      waits : (t : Bool) → closing ≡ t → walkedOne closing (f .width) (f .size) calls p (stateIn (f .size) b flat) ≡ waited closing 1 (stateIn (f .size) b flat)
+      waits : (t : Bool) → closing ≡ t
+          → walkedOne closing (f .width) (f .size) calls p (stateIn (f .size) b flat) ≡ waited closing 1 (stateIn (f .size) b flat)
       waits true t = passes i ∙ rw t (with-steps (stateIn (f .size) b flat) (b .steps + 0) (omega arith))
       waits false t = passes i ∙ rw t
 
@@ -165,26 +173,30 @@ module _ (f : Sizes) (h : Fit f) (closing : Bool) (calls : List Call) (all : All
           → (z : HeldProcess) → processIn z ≡ processAfter (b .steps) (getD (b .resets) q 0) r (o .next)
           → (b′ : HeldBench) (log′ : List ℕ) → Whole b′
           → Changes b b′ p q (o .word) (cond (o .reset) (getD (b .resets) q 0 + 1) (getD (b .resets) q 0)) z
-          → b′ .steps ≡ b .steps + 1 → b′ .gone ≡ b .gone + goneRound r (getD (b .resets) q 0) (o .next) → b′ .entries ≡ b .entries + length (entriesIn over)
+          → b′ .steps ≡ b .steps + 1 → b′ .gone ≡ b .gone + goneRound r (getD (b .resets) q 0) (o .next)
+          → b′ .entries ≡ b .entries + length (entriesIn over)
           → log′ ≡ putEntries (b .entries) (entriesIn over) log
           → Becomes (f .size) (b .entries) log (walkedOne closing (f .width) (f .size) calls p (stateIn (f .size) b flat)) b′ flat′ log′
       unfolding act
-      acts over ends z is b′ log′ whole g steps gone count bytes = subst (λ (y : State). Becomes C (b .entries) log y b′ flat′ log′) (sym (walks busy)) (record {
-        whole = whole;
-        bench = rw (← e, ← made) bench-after;
-        count = rw (← e, ← made, ← over-is) count;
-        slots = rw (← e, ← made) (x .slots);
-        bytes = rw (← e, ← made, ← over-is) bytes;
-      })
+      acts over ends z is b′ log′ whole g steps gone count bytes =
+          subst (λ (y : State). Becomes C (b .entries) log y b′ flat′ log′) (sym (walks busy)) (record {
+            whole = whole;
+            bench = rw (← e, ← made) bench-after;
+            count = rw (← e, ← made, ← over-is) count;
+            slots = rw (← e, ← made) (x .slots);
+            bytes = rw (← e, ← made, ← over-is) bytes;
+          })
         where
           over-is : over ≡ ended p (b .steps) r (processAt (benchIn b) q) (queueAt (benchIn b) q .word .top) (o .next)
           over-is =
-              ends ∙ ap (λ (y : Process). ended p (b .steps) r y (unpacked (getD (b .words) q freshHeld) .top) (o .next)) (sym (process-is b q on-queue))
+              ends
+              ∙ ap (λ (y : Process). ended p (b .steps) r y (unpacked (getD (b .words) q freshHeld) .top) (o .next)) (sym (process-is b q on-queue))
               ∙ ap (λ (y : Queue). ended p (b .steps) r (processAt (benchIn b) q) (y .word .top) (o .next)) (sym queue)
 
           bench-after : benchIn b′ ≡ benchAfter (benchIn b) p q r (unpackedStep o)
           bench-after = λ i. record {
-            queues = (queues-changed b b′ p q _ _ _ g on-queue ∙ ap (λ (y : Queue). set (benchIn b .queues) q (queueAfter y (unpackedStep o))) (sym queue)) i;
+            queues =
+                (queues-changed b b′ p q _ _ _ g on-queue ∙ ap (λ (y : Queue). set (benchIn b .queues) q (queueAfter y (unpackedStep o))) (sym queue)) i;
             processes = (processes-changed b b′ p q _ _ _ g below ∙ ap (set (benchIn b .processes) p) is
                 ∙ ap (λ (y : Queue). set (benchIn b .processes) p (processAfter (b .steps) (y .resets) r (o .next))) (sym queue)) i;
             steps = steps i;
@@ -233,7 +245,8 @@ module _ (f : Sizes) (h : Fit f) (closing : Bool) (calls : List Call) (all : All
         way-on i =
             let j : isIdle (stageAfter (o .next)) ≡ false = ap (λ (y : Process). isIdle (y .stage)) (sym t) ∙ i in
             let g = going p (b .steps) r (recordIn b q) (unpacked (getD (b .words) q freshHeld) .top) resets (o .next) j in
-            let same = put-none 0 (b .resets) q (cond (o .reset) (resets + 1) resets) (ap (λ (y : Bool). cond y (resets + 1) resets) (sym (no-reset j))) in
+            let same =
+            put-none 0 (b .resets) q (cond (o .reset) (resets + 1) resets) (ap (λ (y : Bool). cond y (resets + 1) resets) (sym (no-reset j))) in
             acts Nothing (sym (g .0)) z t _ log (whole′ (b .resets) (b .entries) (b .steps + 1) (b .gone) (whole .resets))
             (changes (b .resets) (b .entries) (b .steps + 1) (b .gone) same) refl (omega (arith, g .1)) (omega arith) refl
 

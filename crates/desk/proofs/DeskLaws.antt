@@ -11,7 +11,8 @@ use Rattle.word.specs.inner.InRange.{SizesIn, WordIn, StageIn, InRange}
 use Rattle.range.proofs.RangeLaws.{in-range, range-in}
 use Rattle.steps.specs.Step.{rowOf, loadedSlot, loaded, stored, steppedOn, stageAfter, resultOf as nextResult, StepOn}
 use Rattle.steps.proofs.StepLaws.{sixteen-in}
-use Rattle.desk.specs.Refusals.{OfB, OfAge, From, Refuses, width-high, size-low, size-high, slots-not-C, bottom-above, top-above, b-above, t-above, word-tag, stage-tag, push-b, take-t, pop-b}
+use Rattle.desk.specs.Refusals.{OfB, OfAge, From, Refuses, width-high, size-low, size-high, slots-not-C, bottom-above, top-above, b-above}
+use Rattle.desk.specs.Refusals.{t-above, word-tag, stage-tag, push-b, take-t, pop-b}
 use Rattle.desk.specs.Desk.{answerOf, numberOf, stageOf, resultOf, deskAnswer, deskWord, deskSlots, AtDesk}
 use Rattle.word.specs.declared.Word.{Word}
 use Rattle.word.specs.declared.Stage.{Stage}
@@ -60,7 +61,8 @@ module _ (W C : ℕ) (w : Word) (slots : List ℕ) (s : Stage) where
   refused-keeps e = rw e (refl, refl, refl)
 
   -- the promise of a step in range, from the one of `step_on`
-  pub at-desk : (after : List ℕ) (r : Stepped) (answer : Answer) → inRange W C (length slots) w s ≡ true → StepOn W C w slots s r after → answer ≡ answerOf (r .next)
+  pub at-desk : (after : List ℕ) (r : Stepped) (answer : Answer) → inRange W C (length slots) w s ≡ true → StepOn W C w slots s r after
+      → answer ≡ answerOf (r .next)
       → AtDesk W C w slots s answer (r .word) after
   at-desk after r answer e h d =
       let o = steppedOn W C w slots s in

@@ -74,7 +74,8 @@ module _ (f : ℕ → Entry) (n : ℕ) (keys : List ℕ) (count : ℕ) (o : Orde
   -- after all moments
   pub lies : n ≤ 256 → Lying f n keys count q row s → LiesIn f n q row (loOf s) (hiOf s)
   lies small h = record {
-    holds = h .holds ∙ sym (still f n keys count o q count (instant keys count + afterAll f n) (omega arith) (λ u. absurd (omega arith)) (omega arith))
+    holds =
+        h .holds ∙ sym (still f n keys count o q count (instant keys count + afterAll f n) (omega arith) (λ u. absurd (omega arith)) (omega arith))
         ∙ left-for-good f n q (instant keys count + afterAll f n) (omega arith);
     low = h .low;
     high = omega (arith, h .high, o .few);

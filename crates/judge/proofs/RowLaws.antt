@@ -254,7 +254,11 @@ module _ (f : ℕ → Entry) (n : ℕ) (keys : List ℕ) (count : ℕ) (o : Orde
         all a u t (no g) =
             let z = s .all refl a (omega arith) t in
             let ne : from + z .at ≡ from + c → ⊥ = λ g. omega (arith, z .below) in
-            record { at = z .at; below = omega (arith, z .below); passes = rw (getD-set-other nodes (from + c) (from + z .at) (f j .node) 0 ne) (z .passes) }
+            record {
+              at = z .at;
+              below = omega (arith, z .below);
+              passes = rw (getD-set-other nodes (from + c) (from + z .at) (f j .node) 0 ne) (z .passes);
+            }
 
   -- whether the node of a push was added before, and what the next call adds, watched or not
   pub fresh-is : (watch : Bool) (from : ℕ) (nodes : List ℕ) (c : ℕ) → Added watch f n keys from k nodes c → isPush f keys k ≡ true
@@ -287,7 +291,8 @@ module _ (f : ℕ → Entry) (n : ℕ) (keys : List ℕ) (count : ℕ) (o : Orde
         differ = s .differ;
       })
 
-  module _ (watch : Bool) (width : ℕ) (nodes ends : List ℕ) (c : ℕ) (s : Replayed watch f n keys width k nodes ends c) (fits : n ≤ width) (small : width ≤ 256)
+  module _ (watch : Bool) (width : ℕ) (nodes ends : List ℕ) (c : ℕ) (s : Replayed watch f n keys width k nodes ends c) (fits : n ≤ width)
+      (small : width ≤ 256)
       (fields : Fields f n) where
     abbrev q : ℕ
     q = f j .queue
@@ -316,7 +321,8 @@ module _ (f : ℕ → Entry) (n : ℕ) (keys : List ℕ) (count : ℕ) (o : Orde
         d : List ℕ
         d = before f n q (f j .moment)
 
-        by-push : (w : What) → what (f j) ≡ w → lawful (newIn nodes (8 * width) c (f j .node)) w (f j .node) d ≡ lawful (fresh f n (f j)) w (f j .node) d
+        by-push : (w : What) → what (f j) ≡ w
+            → lawful (newIn nodes (8 * width) c (f j .node)) w (f j .node) d ≡ lawful (fresh f n (f j)) w (f j .node) d
         by-push Pushed e = ap not (fresh-is watch (8 * width) nodes c (s .pushes) (ap (same Pushed) e))
         by-push Full e = refl
         by-push BottomNode e = refl
@@ -341,7 +347,9 @@ module _ (f : ℕ → Entry) (n : ℕ) (keys : List ℕ) (count : ℕ) (o : Orde
         getD-set-same ends q (endsAfter (what (f j)) at) 0 (omega (arith, s .ends-long, queue-low)) in
         subst (λ (y : ℕ). Row f n keys width (k + 1) nodes₁ y (getD ends₁ y 0)) (sym e)
         (subst (λ (y : ℕ). Row f n keys width (k + 1) nodes₁ q y) (sym z) (record {
-          holds = moved-is nodes (width * q) at (f j .node) (mine .low) (omega (arith, hi-low, s .nodes-long)) (omega (arith, mine .high, o .few)) (what (f j))
+          holds =
+              moved-is nodes (width * q) at (f j .node) (mine .low) (omega (arith, hi-low, s .nodes-long)) (omega (arith, mine .high, o .few))
+              (what (f j))
               ∙ ap (λ (d : List ℕ). applied (what (f j)) (f j .node) d) (mine .holds) ∙ sym (own-is f n keys count o k inside)
               ∙ ap (λ (y : ℕ). before f n q (instant keys y)) step;
           low = b .low;
@@ -380,7 +388,8 @@ module _ (f : ℕ → Entry) (n : ℕ) (keys : List ℕ) (count : ℕ) (o : Orde
       nodes-long = simp length-set (s .nodes-long);
       ends-long = simp length-set (s .ends-long);
       row = λ x u. rows-kept x (getD ends₁ x 0) u (rows-next x u (ℕ-discrete x q));
-      pushes = added-next watch (8 * width) nodes₁ c (added-kept watch f n keys (8 * width) k nodes c (width * q + hiOf at) (f j .node) hi-low (s .pushes))
+      pushes =
+          added-next watch (8 * width) nodes₁ c (added-kept watch f n keys (8 * width) k nodes c (width * q + hiOf at) (f j .node) hi-low (s .pushes))
           (isPush f keys k) refl (simp length-set (omega (arith, added-low, s .nodes-long)));
       fine = λ a u. fine a u (ℕ-discrete a k);
     }

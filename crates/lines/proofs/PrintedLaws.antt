@@ -167,7 +167,8 @@ read-back (P2 a b) h = ap lineIn (two (spelt (P2 a b)) a (h .0) b (h .1 .0) []) 
 read-back (T2 a b) h = ap lineIn (two (spelt (T2 a b)) a (h .0) b (h .1 .0) []) ∙ rw (lt-ltb _ _ (h .0), lt-ltb _ _ (h .1 .0))
 read-back (B4 a b) h = ap lineIn (two (spelt (B4 a b)) a (h .0) b (h .1 .0) []) ∙ rw (lt-ltb _ _ (h .0), lt-ltb _ _ (h .1 .0))
 read-back (T3 a b c) h =
-    ap lineIn (three (spelt (T3 a b c)) a (h .0) b (h .1 .0) c (h .1 .1 .0) []) ∙ rw (lt-ltb _ _ (h .0), lt-ltb _ _ (h .1 .0), lt-ltb _ _ (h .1 .1 .0))
+    ap lineIn (three (spelt (T3 a b c)) a (h .0) b (h .1 .0) c (h .1 .1 .0) [])
+    ∙ rw (lt-ltb _ _ (h .0), lt-ltb _ _ (h .1 .0), lt-ltb _ _ (h .1 .1 .0))
 read-back (T4 a b c d) h =
     ap lineIn (four (spelt (T4 a b c d)) a (h .0) b (h .1 .0) c (h .1 .1 .0) d (h .1 .1 .1 .0))
     ∙ rw (lt-ltb _ _ (h .0), lt-ltb _ _ (h .1 .0), lt-ltb _ _ (h .1 .1 .0), lt-ltb _ _ (h .1 .1 .1 .0))

@@ -16,11 +16,13 @@ use Rattle.log.specs.Numbers.{bearsMoment, what, same, isTopNil}
 use Rattle.log.proofs.NumbersLaws.{same-of, same-true}
 use Rattle.log.specs.Decode.{sectionCountOf, processesOf, slotsOf, entryCountOf, entryAt}
 use Rattle.log.specs.Encode.{Log, sectionCount, InRange, logBytes}
-use Rattle.log.proofs.EncodeLaws.{decoded, entry-decoded, processes-decoded, slots-decoded, entry-count-decoded, whole-encoded, encode-decode, in-range}
+use Rattle.log.proofs.EncodeLaws.{decoded, entry-decoded, processes-decoded, slots-decoded, entry-count-decoded, whole-encoded, encode-decode}
+use Rattle.log.proofs.EncodeLaws.{in-range}
 use Rattle.rules.specs.declared.Verdict.{Verdict}
 use Rattle.rules.specs.Search.{any}
 use Rattle.rules.specs.Contents.{bears, on, before}
-use Rattle.rules.specs.Rules.{clash, bearsAt, isEmpty, topIs, bottomIs, addedBefore, fresh, lawful, lawfulAt, inCall, emptyWithin, takesTopmost, removes, hasCause, since, breaks1, breaks2, breaks3, breaks4, breaks5, breaks6}
+use Rattle.rules.specs.Rules.{clash, bearsAt, isEmpty, topIs, bottomIs, addedBefore, fresh, lawful, lawfulAt, inCall, emptyWithin, takesTopmost}
+use Rattle.rules.specs.Rules.{removes, hasCause, since, breaks1, breaks2, breaks3, breaks4, breaks5, breaks6}
 use Rattle.rules.specs.Judge.{says, first1, first2, first3, first4, first5, first6, worst4, orElse, rulesOf, headRight, judgeOf}
 use Rattle.rules.specs.Accepted.{Rule4, EmptyIn, RemovedIn, Accepted, entryOf, AcceptedLog, AcceptedBytes, JudgedZero}
 use Rattle.base.proofs.Bools.{contra, not-so, and-i, and-0, and-1, or-l, or-r, or-e, guarded, not-i, not-e, not-f}

@@ -19,7 +19,8 @@ use Rattle.rules.specs.Search.{count, sumTo}
 use Rattle.rules.specs.Contents.{bears, dropLast, applied, on, happens, eventAt, before}
 use Rattle.rules.specs.Judge.{says, first1, first2, first3, first4, first5, first6, orElse, judgeOf}
 use Rattle.rules.specs.Accepted.{Rule4, Accepted}
-use Rattle.rules.specs.Left.{afterAll, leftIn, pushes, returns, onBefore, tally, PushedBefore, ReturnedWasPushed, ReturnedOnce, HeldIsCounted, LeftForGood, InOnePlace, PushedOnceInOnePlace, unordered}
+use Rattle.rules.specs.Left.{afterAll, leftIn, pushes, returns, onBefore, tally, PushedBefore, ReturnedWasPushed, ReturnedOnce, HeldIsCounted}
+use Rattle.rules.specs.Left.{LeftForGood, InOnePlace, PushedOnceInOnePlace, unordered}
 use Rattle.base.proofs.Bools.{contra, and-i, and-0, and-1, or-e, by-both, not-so, guarded}
 use Rattle.base.proofs.Cases.{ever, if-lt, either-way}
 use Rattle.rules.proofs.SearchLaws.{first-is, Found, none-passes}
@@ -170,7 +171,8 @@ module _ (f : ℕ → Entry) (n P C : ℕ) (a : Accepted f n P C) where
     returned-borne e h = return-bears e (and-0 (returns e) (p (e .node)) h)
 
     one-call : (e : Entry) (c : List ℕ) (w : What) → Rule4 f n e c w
-        → tally p (applied w (e .node) c) + one ((same BottomNode w || same TopNode w) && p (e .node)) ≡ tally p c + one (same Pushed w && p (e .node))
+        → tally p (applied w (e .node) c) + one ((same BottomNode w || same TopNode w) && p (e .node)) ≡ tally p c + one
+        (same Pushed w && p (e .node))
     one-call e c Pushed h = omega (arith, tally-snoc p c (e .node))
     one-call e c Full h = refl
     one-call e c BottomNode h =
@@ -211,7 +213,8 @@ module _ (f : ℕ → Entry) (n P C : ℕ) (a : Accepted f n P C) where
         (λ h. omega (arith, held q m, quiet-count pushesOne pushed-borne q m h, quiet-count returnsOne returned-borne q m h))
 
   -- a node that is returned stands in its queue just before
-  held-node : (e : Entry) (c : List ℕ) (w : What) → Rule4 f n e c w → (same BottomNode w || same TopNode w) ≡ true → 1 ≤ tally (λ y. eqb y (e .node)) c
+  held-node : (e : Entry) (c : List ℕ) (w : What) → Rule4 f n e c w → (same BottomNode w || same TopNode w) ≡ true
+      → 1 ≤ tally (λ y. eqb y (e .node)) c
   held-node e c w r t = or-e (same BottomNode w) (same TopNode w) t
       (λ b. bottom (subst (Rule4 f n e c) (sym (same-true BottomNode w b)) r)) (λ b. top (subst (Rule4 f n e c) (sym (same-true TopNode w b)) r))
     where
@@ -267,7 +270,8 @@ module _ (f : ℕ → Entry) (n P C : ℕ) (a : Accepted f n P C) where
         is : (k : ℕ) → (pushes (f k) && eqb (f k .node) x) ≡ true → f k .node ≡ x
         is k h = eqb-true (f k .node) x (and-1 (pushes (f k)) (eqb (f k .node) x) h)
 
-        again : (k l : ℕ) → k < n → l < n → (pushes (f k) && eqb (f k .node) x) ≡ true → (pushes (f l) && eqb (f l .node) x) ≡ true → f k .moment < f l .moment
+        again : (k l : ℕ) → k < n → l < n → (pushes (f k) && eqb (f k .node) x) ≡ true → (pushes (f l) && eqb (f l .node) x) ≡ true
+            → f k .moment < f l .moment
             → ⊥
         again k l b c g h lt =
             subst (Rule4 f n (f l) (before f n (f l .queue) (f l .moment))) (did l h) (a .rule4 l c) k b (did k g) lt (is k g ∙ sym (is l h))
@@ -296,7 +300,8 @@ module _ (f : ℕ → Entry) (n P C : ℕ) (a : Accepted f n P C) where
         all : (t : Entry → Bool) (borne : (e : Entry) → t e ≡ true → bears e ≡ true)
             → sumTo (λ q. count (passing t borne q (afterAll f n)) n) P ≡ count (λ i. t (f i)) n
         all t borne =
-            sum-same (λ q. count (passing t borne q (afterAll f n)) n) (λ q. count (λ i. t (f i) && eqb (f i .queue) q) n) P (λ q u. whole-count t borne q)
+            sum-same (λ q. count (passing t borne q (afterAll f n)) n) (λ q. count (λ i. t (f i) && eqb (f i .queue) q) n) P
+            (λ q u. whole-count t borne q)
             ∙ count-shared (λ i. t (f i)) (λ i. f i .queue) P n (λ i u _. a .rule1 i u .queue)
 
 pub returned-was-pushed : ReturnedWasPushed
@@ -321,7 +326,8 @@ held-is-counted f n P C a q m =
     omega (arith, held f n P C a (λ _. true) q m, tally-all (before f n q m), unasked pushes, unasked returns)
   where
     unasked : (t : Entry → Bool) → count (λ i. t (f i) && true && onBefore q m (f i)) n ≡ count (λ i. t (f i) && onBefore q m (f i)) n
-    unasked t = count-same (λ i. t (f i) && true && onBefore q m (f i)) (λ i. t (f i) && onBefore q m (f i)) n (λ i u. by (t (f i)) (onBefore q m (f i)))
+    unasked t =
+        count-same (λ i. t (f i) && true && onBefore q m (f i)) (λ i. t (f i) && onBefore q m (f i)) n (λ i u. by (t (f i)) (onBefore q m (f i)))
       where
         by : (s r : Bool) → (s && true && r) ≡ (s && r)
         by true r = refl
@@ -344,7 +350,8 @@ in-order bytes = by (ltb (length bytes) 5) refl (headOf bytes) refl (ltb (length
     f = entryAt bytes
 
     by : (s : Bool) → ltb (length bytes) 5 ≡ s → (t : Bool) → headOf bytes ≡ t → (u : Bool) → ltb (length bytes) (5 + 12 * n) ≡ u
-        → (v : Bool) → ltb (5 + 12 * n) (length bytes) ≡ v → (a : Bool) → ltb (first1 f n (processesOf bytes)) n ≡ a → (b : Bool) → ltb (first2 f n) n ≡ b
+        → (v : Bool) → ltb (5 + 12 * n) (length bytes) ≡ v → (a : Bool) → ltb (first1 f n (processesOf bytes)) n ≡ a → (b : Bool)
+        → ltb (first2 f n) n ≡ b
         → (d : Bool) → ltb (first3 f n) n ≡ d
         → unordered (cond s (says 11 0) (cond (not t) (says 12 0) (cond u (says 11 0) (cond v (says 13 0)
         (cond a (says 14 (first1 f n (processesOf bytes))) (cond b (says 15 (first2 f n)) (cond d (says 16 (first3 f n))

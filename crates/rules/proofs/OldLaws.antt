@@ -18,7 +18,8 @@ use Rattle.rules.specs.declared.Verdict.{Verdict}
 use Rattle.rules.specs.Search.{first, any, lowest}
 use Rattle.rules.proofs.SearchLaws.{anyFrom}
 use Rattle.rules.specs.Contents.{bears, eventAt, before, applied}
-use Rattle.rules.specs.Rules.{inCall, isEmpty, fresh, lawful, takesTopmost, hasCause, since, keeps1, breaks1, breaks3, breaks4, breaks5, breaks6}
+use Rattle.rules.specs.Rules.{inCall, isEmpty, fresh, lawful, takesTopmost, hasCause, since, keeps1, breaks1, breaks3, breaks4, breaks5}
+use Rattle.rules.specs.Rules.{breaks6}
 use Rattle.rules.specs.Judge.{says, first2, orElse, rulesOf, headRight, judgeOf}
 use Rattle.rules.specs.Accepted.{entryOf}
 use Rattle.rules.specs.OldLogs.{withResult, Older, OlderLog, OldAccepted, OldJudged}

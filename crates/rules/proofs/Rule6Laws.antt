@@ -194,7 +194,8 @@ module _ (f : ℕ → Entry) (n P : ℕ) (rule1 : (j : ℕ) → j < n → Rule1 
   within : (i : ℕ) → i < n → (2 * f i .start ≤ when i) × (when i ≤ 2 * f i .end + 1)
   within i u = by (bears (f i)) refl
     where
-      by : (b : Bool) → bears (f i) ≡ b → (2 * f i .start ≤ cond b (f i .moment) (2 * f i .start)) × (cond b (f i .moment) (2 * f i .start) ≤ 2 * f i .end + 1)
+      by : (b : Bool) → bears (f i) ≡ b
+          → (2 * f i .start ≤ cond b (f i .moment) (2 * f i .start)) × (cond b (f i .moment) (2 * f i .start) ≤ 2 * f i .end + 1)
       by true b = (rule3 i u .from b, rule3 i u .to b)
       by false b = (omega arith, omega (arith, rule1 i u .start))
 

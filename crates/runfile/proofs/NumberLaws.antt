@@ -13,7 +13,9 @@ use Rattle.runfile.specs.declared.Call.the-variants.{Push, Pop, Take}
 use Rattle.runfile.specs.declared.Coded.{Coded}
 use Rattle.runfile.specs.declared.Coded.the-variants.{Right}
 use Rattle.runfile.specs.Check.{_when_, _then_, _endsBefore_, any, firstOf, outside}
-use Rattle.runfile.specs.File.{sectionCount, mostWidth, mostSize, mostProcesses, longestScript, longestSchedule, widthIn, sizeIn, sharePlace, callsBefore, stepsIn, stepPlace, RunFile, Answer, refused, good, answer, callPlace, callOf, firstCalls, pushes, wrongAfter, wrongAt, processesIn, callsIn, section1, section2, section3, section4, numberOf, recordIn, fileOf}
+use Rattle.runfile.specs.File.{sectionCount, mostWidth, mostSize, mostProcesses, longestScript, longestSchedule, widthIn, sizeIn, sharePlace}
+use Rattle.runfile.specs.File.{callsBefore, stepsIn, stepPlace, RunFile, Answer, refused, good, answer, callPlace, callOf, firstCalls, pushes}
+use Rattle.runfile.specs.File.{wrongAfter, wrongAt, processesIn, callsIn, section1, section2, section3, section4, numberOf, recordIn, fileOf}
 
 abbrev Few : ℕ → Type 0
 Few n = n ≤ 7
@@ -44,7 +46,8 @@ call-few earlier P code x =
     right (Take queue) = omega arith
 
 -- a section, as all four are: the count missing, the count wrong, contents missing, then what is inside
-section-few : (n : ℕ) (missing wrong short : Bool) (inside : ℕ) → Few n → Few inside → Few (1 when missing then n when wrong then 1 when short then inside)
+section-few : (n : ℕ) (missing wrong short : Bool) (inside : ℕ) → Few n → Few inside
+    → Few (1 when missing then n when wrong then 1 when short then inside)
 section-few n missing wrong short inside h k =
     then-few (1 when missing) _ (when-few 1 missing (omega arith))
     (then-few (n when wrong) _ (when-few n wrong h) (then-few (1 when short) inside (when-few 1 short (omega arith)) k))

@@ -42,7 +42,8 @@ ends-idle p r s Full = omega arith
 abbrev pub Bounded : ℕ → State → Type 0
 Bounded N s = total (s .bench .processes) + length (s .log) ≤ N
 
-pub act-bounded : (N W C p : ℕ) (r : Process) (s : State) → r .stop - r .next + 1 ≤ weight (processAt (s .bench) p) → Bounded N s → Bounded N (act W C p r s)
+pub act-bounded : (N W C p : ℕ) (r : Process) (s : State) → r .stop - r .next + 1 ≤ weight (processAt (s .bench) p) → Bounded N s
+    → Bounded N (act W C p r s)
 unfolding act
 act-bounded N W C p r s h k =
     let o = stepping W C p r s in
@@ -53,10 +54,12 @@ act-bounded N W C p r s h k =
 pub busy-weight : (r : Process) → isIdle (r .stage) ≡ false → r .stop - r .next + 1 ≤ weight r
 busy-weight r e = omega (arith, ap bit e)
 
-ready-weight : (calls : List Call) (n : ℕ) (r : Process) → isIdle (ready calls n r .stage) ≡ false → ready calls n r .stop - ready calls n r .next + 1 ≤ weight r
+ready-weight : (calls : List Call) (n : ℕ) (r : Process) → isIdle (ready calls n r .stage) ≡ false
+    → ready calls n r .stop - ready calls n r .next + 1 ≤ weight r
 ready-weight calls n r = by-stage (isIdle (r .stage)) (ltb (r .next) (r .stop)) refl refl
   where
-    by-stage : (t u : Bool) → isIdle (r .stage) ≡ t → ltb (r .next) (r .stop) ≡ u → isIdle (ready calls n r .stage) ≡ false → ready calls n r .stop - ready calls n r .next + 1 ≤ weight r
+    by-stage : (t u : Bool) → isIdle (r .stage) ≡ t → ltb (r .next) (r .stop) ≡ u → isIdle (ready calls n r .stage) ≡ false
+        → ready calls n r .stop - ready calls n r .next + 1 ≤ weight r
     by-stage true true e d = rw (e, d) (λ h. omega (arith, ltb-true (r .next) (r .stop) d))
     by-stage true false e d = rw (e, d) (λ h. absurd (true≢false (sym e ∙ h)))
     by-stage false u e d = rw e (λ h. omega arith)
@@ -70,15 +73,19 @@ unfolding act
 act-kept N W C p r s h k = (eight ∙ k .0, act-bounded N W C p r s h (k .1))
   where
     eight : length (act W C p r s .bench .processes) ≡ length (s .bench .processes)
-    eight = length-set (s .bench .processes) p (processAfter (s .bench .steps) (queueAt (s .bench) (queueOf p (r .call)) .resets) r (stepping W C p r s .next))
+    eight =
+        length-set (s .bench .processes) p
+        (processAfter (s .bench .steps) (queueAt (s .bench) (queueOf p (r .call)) .resets) r (stepping W C p r s .next))
 
 pub turn-bounded : (N W C : ℕ) (calls : List Call) (p : ℕ) (s : State) → Bounded N s → Bounded N (turn W C calls p s)
 turn-bounded N W C calls p s h =
-    turn-keeps W C calls (Bounded N) p s h (λ e. act-bounded N W C p (turning calls p s) s (ready-weight calls (s .bench .steps) (processAt (s .bench) p) e) h)
+    turn-keeps W C calls (Bounded N) p s h
+    (λ e. act-bounded N W C p (turning calls p s) s (ready-weight calls (s .bench .steps) (processAt (s .bench) p) e) h)
 
 turn-kept : (N W C : ℕ) (calls : List Call) (p : ℕ) (s : State) → Kept N s → Kept N (turn W C calls p s)
 turn-kept N W C calls p s h =
-    turn-keeps W C calls (Kept N) p s h (λ e. act-kept N W C p (turning calls p s) s (ready-weight calls (s .bench .steps) (processAt (s .bench) p) e) h)
+    turn-keeps W C calls (Kept N) p s h
+    (λ e. act-kept N W C p (turning calls p s) s (ready-weight calls (s .bench .steps) (processAt (s .bench) p) e) h)
 
 closing-kept : (N W C : ℕ) (s : State) → lowest (s .bench .processes) < 8 → Kept N s → Kept N (closingStep W C s)
 closing-kept N W C s l h =
@@ -99,7 +106,8 @@ part-most (x ∷ l) zero = omega arith
 part-most (x ∷ l) (suc n) = omega (arith, part-most l n)
 
 -- processes whose scripts follow one another
-spread : (l : List ℕ) (n k : ℕ) (f : ℕ → Process) → ((i : ℕ) → weight (f i) + sum (take (k + i) l) ≡ sum (take (suc (k + i)) l)) → total (listOf n f) + sum (take k l) ≤ sum l
+spread : (l : List ℕ) (n k : ℕ) (f : ℕ → Process) → ((i : ℕ) → weight (f i) + sum (take (k + i) l) ≡ sum (take (suc (k + i)) l))
+    → total (listOf n f) + sum (take k l) ≤ sum l
 spread l zero k f h = omega (arith, part-most l k)
 spread l (suc n) k f h =
     let z : k + 0 ≡ k = omega arith in

@@ -54,7 +54,8 @@ some-half (r ∷ rs) h = by-stage (isIdle (r .stage)) refl (some-half rs)
     by-stage false e more = rw e (omega arith)
 
 -- one process more, from the highest on
-pub half-next : (rs : List Process) (i : ℕ) (d : Process) → i < length rs → halfDone (drop i rs) ≡ 2 * halfDone (drop (suc i) rs) + bit (isIdle (getD rs i d .stage))
+pub half-next : (rs : List Process) (i : ℕ) (d : Process) → i < length rs
+    → halfDone (drop i rs) ≡ 2 * halfDone (drop (suc i) rs) + bit (isIdle (getD rs i d .stage))
 half-next rs i d h = ap halfDone (drop-cons rs i d h)
 
 -- the program's loop, from the highest process down to process i
@@ -67,7 +68,8 @@ module _ (rs : List Process) (eight : length rs ≡ 8) where
   pub half-start : 0 ≡ halfDone (drop 8 rs)
   half-start = ap halfDone (sym (drop-of-length-le rs {i = 8} (omega arith)))
 
-  pub half-loop : (i set half : ℕ) → set ≡ halfDone (drop i rs) → 0 < i → i ≤ 8 → half ≡ bit (isIdle (getD rs (i - 1) nobody .stage)) → 2 * set + half ≡ halfDone (drop (i - 1) rs)
+  pub half-loop : (i set half : ℕ) → set ≡ halfDone (drop i rs) → 0 < i → i ≤ 8 → half ≡ bit (isIdle (getD rs (i - 1) nobody .stage))
+      → 2 * set + half ≡ halfDone (drop (i - 1) rs)
   half-loop i set half e h l d =
       let k : suc (i - 1) ≡ i = omega arith in
       rw (half-next rs (i - 1) nobody (omega arith), k, e, d)

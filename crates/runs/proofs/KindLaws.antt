@@ -27,10 +27,12 @@ pub record Within (s s′ : Stage) : Type 0 where
   -- whoever is past B2 was there, or at B2
   pub b2 : pastB2 s′ ≡ true → leb 9 (rowNumber s) ≡ true
 
-of-push : (s s′ : Stage) → isPush s ≡ true → isOwn s ≡ true → (isTop s′ ≡ true → isTop s ≡ true) → isFirst s′ ≡ false → pastB2 s′ ≡ false → Within s s′
+of-push : (s s′ : Stage) → isPush s ≡ true → isOwn s ≡ true → (isTop s′ ≡ true → isTop s ≡ true) → isFirst s′ ≡ false → pastB2 s′ ≡ false
+    → Within s s′
 of-push s s′ a b c d e = record { own = λ _. b; top = c; push = λ _. a; first = d; b2 = λ x. ever (sym x ∙ e) }
 
-of-top : (s s′ : Stage) → isTop s ≡ true → (isOwn s′ ≡ true → isOwn s ≡ true) → (isPush s′ ≡ true → isPush s ≡ true) → isFirst s′ ≡ false → pastB2 s′ ≡ false
+of-top : (s s′ : Stage) → isTop s ≡ true → (isOwn s′ ≡ true → isOwn s ≡ true) → (isPush s′ ≡ true → isPush s ≡ true) → isFirst s′ ≡ false
+    → pastB2 s′ ≡ false
     → Within s s′
 of-top s s′ a b c d e = record { own = b; top = λ _. a; push = c; first = d; b2 = λ x. ever (sym x ∙ e) }
 
@@ -53,7 +55,8 @@ within W C w v (T2 t g) =
 within W C w v (T3 t g b) = of-top _ _ refl (λ e. e) (λ e. e) refl refl
 within W C w v (T4 t g b x) =
     either-way (To (T4 t g b x)) (sameAge w t g) (λ _. of-top _ _ refl (λ e. e) (λ e. e) refl refl) (λ _. of-top _ _ refl (λ e. e) (λ e. e) refl refl)
-within W C w v B1 = either-way (To B1) (eqb (w .bottom) 0) (λ _. of-pop _ _ refl (λ e. e) (λ e. e) refl never) (λ _. of-pop _ _ refl (λ e. e) (λ e. e) refl never)
+within W C w v B1 =
+    either-way (To B1) (eqb (w .bottom) 0) (λ _. of-pop _ _ refl (λ e. e) (λ e. e) refl never) (λ _. of-pop _ _ refl (λ e. e) (λ e. e) refl never)
 within W C w v (B2 b) = of-pop _ _ refl (λ e. e) (λ e. e) refl (λ _. refl)
 within W C w v (B3 b) = of-pop _ _ refl (λ e. e) (λ e. e) refl (λ _. refl)
 within W C w v (B4 b x) =
@@ -63,7 +66,8 @@ within W C w v (B5 b x t g) =
     either-way (Within (B5 b x t g)) (eqb (b - 1) t) (λ _. of-pop _ _ refl (λ e. e) (λ e. e) refl (λ _. refl))
     (λ _. of-pop _ _ refl (λ e. e) (λ e. e) refl (λ _. refl))
 within W C w v (B6 b x t g) =
-    either-way (To (B6 b x t g)) (sameAge w t g) (λ _. of-pop _ _ refl (λ e. e) (λ e. e) refl (λ _. refl)) (λ _. of-pop _ _ refl (λ e. e) (λ e. e) refl (λ _. refl))
+    either-way (To (B6 b x t g)) (sameAge w t g) (λ _. of-pop _ _ refl (λ e. e) (λ e. e) refl (λ _. refl))
+    (λ _. of-pop _ _ refl (λ e. e) (λ e. e) refl (λ _. refl))
 within W C w v (B7 b x t g) = of-pop _ _ refl (λ e. e) (λ e. e) refl (λ _. refl)
 
 pub still-suits : (call : Call) (s s′ : Stage) → Within s s′ → Suits call s → Suits call s′

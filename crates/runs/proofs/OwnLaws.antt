@@ -67,9 +67,11 @@ first-most (Take q) = omega arith
 module _ (f : RunFile) where
   one-more : (p from n : ℕ) → ownSteps f p from (suc n) ≤ ownSteps f p from n + 1
   one-more p from n =
-      either-way (λ (k : ℕ). ownSteps f p from n + k ≤ ownSteps f p from n + 1) (leb from n && eqb (whoSteps f n) p) (λ e. omega arith) (λ e. omega arith)
+      either-way (λ (k : ℕ). ownSteps f p from n + k ≤ ownSteps f p from n + 1) (leb from n && eqb (whoSteps f n) p) (λ e. omega arith)
+      (λ e. omega arith)
 
-  no-more : (p from n : ℕ) (t u : Bool) → leb from n ≡ t → eqb (whoSteps f n) p ≡ u → (t && u) ≡ false → ownSteps f p from (suc n) ≡ ownSteps f p from n
+  no-more : (p from n : ℕ) (t u : Bool) → leb from n ≡ t → eqb (whoSteps f n) p ≡ u → (t && u) ≡ false
+      → ownSteps f p from (suc n) ≡ ownSteps f p from n
   no-more p from n t u d e k = rw (d, e, k) (omega arith)
 
   another's : (p from n : ℕ) → (whoSteps f n ≡ p → ⊥) → ownSteps f p from (suc n) ≡ ownSteps f p from n
@@ -209,7 +211,8 @@ module _ (f : RunFile) where
         by true d before =
             ap (λ (x : State). x .bench .steps) (closing-next f k)
             ∙ ap (λ (t : Bool). cond t (closingStep (f .width) (f .size) s) s .bench .steps) d
-            ∙ act-numbered (f .width) (f .size) (length (f .schedule) + k) (lowest (s .bench .processes)) (processAt (s .bench) (lowest (s .bench .processes))) s (before d)
+            ∙ act-numbered (f .width) (f .size) (length (f .schedule) + k) (lowest (s .bench .processes))
+            (processAt (s .bench) (lowest (s .bench .processes))) s (before d)
             ∙ omega arith
         by false d before =
             ever (sym e ∙ ap more (closing-next f k) ∙ ap (λ (t : Bool). more (cond t (closingStep (f .width) (f .size) s) s)) d ∙ d)

@@ -73,9 +73,11 @@ module _ (f : RunFile) (h : InRanges f) where
 
   -- the record with which a process makes a schedule step: idle with no call left, or in a call
   pub ready-case : (Q : Process → Type 0) (s : State) → Sound (sizesOf f) s → Each f s → (p : ℕ) → p < length (f .shares)
-      → (isIdle (processAt (s .bench) p .stage) ≡ true → Q (processAt (s .bench) p)) → ((r : Process) → Steps (sizesOf f) s p r → Scripted f p r → Q r)
+      → (isIdle (processAt (s .bench) p .stage) ≡ true → Q (processAt (s .bench) p))
+      → ((r : Process) → Steps (sizesOf f) s p r → Scripted f p r → Q r)
       → Q (ready (f .calls) (s .bench .steps) (processAt (s .bench) p))
-  ready-case Q s v e p lt i a = by (isIdle (processAt (s .bench) p .stage)) refl (ltb (processAt (s .bench) p .next) (processAt (s .bench) p .stop)) refl
+  ready-case Q s v e p lt i a =
+      by (isIdle (processAt (s .bench) p .stage)) refl (ltb (processAt (s .bench) p .next) (processAt (s .bench) p .stop)) refl
     where
       starts : processAt (s .bench) p .stage ≡ Idle → processAt (s .bench) p .next < processAt (s .bench) p .stop
           → Q (begun (s .bench .steps) (getD (f .calls) (processAt (s .bench) p .next) Pop) (processAt (s .bench) p))
@@ -87,9 +89,16 @@ module _ (f : RunFile) (h : InRanges f) where
           let ok : CallInRange (length (f .shares)) c = h .calls (r .next) (omega (arith, o .stop, h .count, sum-take (suc p) (f .shares))) in
           let k = begins-call (sizesOf f) (fit f h) s p lt z c (call-in c ok) in
           let d : r .next + 1 - 1 ≡ r .next = omega arith in
-          a _ k (record { stop = o .stop; from = rw (k .busy) (omega arith); to = omega arith; begun = λ _. omega arith; call = λ _. ap (λ (j : ℕ). getD (f .calls) j Pop) d })
+          a _ k (record {
+            stop = o .stop;
+            from = rw (k .busy) (omega arith);
+            to = omega arith;
+            begun = λ _. omega arith;
+            call = λ _. ap (λ (j : ℕ). getD (f .calls) j Pop) d;
+          })
 
-      by : (t : Bool) → isIdle (processAt (s .bench) p .stage) ≡ t → (u : Bool) → ltb (processAt (s .bench) p .next) (processAt (s .bench) p .stop) ≡ u
+      by : (t : Bool) → isIdle (processAt (s .bench) p .stage) ≡ t → (u : Bool)
+          → ltb (processAt (s .bench) p .next) (processAt (s .bench) p .stop) ≡ u
           → Q (cond (t && u) (begun (s .bench .steps) (getD (f .calls) (processAt (s .bench) p .next) Pop) (processAt (s .bench) p)) (processAt (s .bench) p))
       by true z true d = starts (idle-is _ z) (ltb-true _ _ d)
       by true z false d = i z
@@ -116,7 +125,9 @@ module _ (f : RunFile) (h : InRanges f) where
     scripted-after : Scripted f p r′
     scripted-after = record {
       stop = c .stop;
-      from = finished-up (stageAfter (rowAt (sizesOf f) s p r .next)) (subst (λ (b : Bool). low f p ≤ cond b (r .next) (r .next - 1)) (k .busy) (c .from));
+      from =
+          finished-up (stageAfter (rowAt (sizesOf f) s p r .next))
+          (subst (λ (b : Bool). low f p ≤ cond b (r .next) (r .next - 1)) (k .busy) (c .from));
       to = c .to;
       begun = λ _. c .begun (k .busy);
       call = λ _. c .call (k .busy);

@@ -21,7 +21,8 @@ shown = record {
     lost-3 = lost-3 f h s o p lt;
   };
   never-9 = λ file b room.
-      run-cases (λ (o : Outcome). o .number ≡ 9 → ⊥) file b room (λ n low high e. omega arith) (λ f e h z. let k : _≡_ {A = ℕ} 0 9 = z in omega arith);
+      run-cases (λ (o : Outcome). o .number ≡ 9 → ⊥) file b room (λ n low high e. omega arith)
+      (λ f e h z. let k : _≡_ {A = ℕ} 0 9 = z in omega arith);
   own-steps-most = own-steps-most;
   begun-once = begun-once;
 }

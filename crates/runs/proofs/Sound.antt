@@ -59,7 +59,11 @@ pub record Fresh (f : Sizes) (s : State) : Type 0 where
 
 -- what is in range is of queues, records and slots alone
 pub sound-as : (f : Sizes) (s : State) → Sound f s → (steps gone : ℕ) (log : List Entry)
-    → Sound f (record { bench = record { queues = s .bench .queues; processes = s .bench .processes; steps = steps; gone = gone }; slots = s .slots; log = log })
+    → Sound f (record {
+      bench = record { queues = s .bench .queues; processes = s .bench .processes; steps = steps; gone = gone };
+      slots = s .slots;
+      log = log;
+    })
 sound-as f s v steps gone log = record {
   queues = v .queues;
   records = v .records;
@@ -84,7 +88,8 @@ module _ (f : Sizes) (h : Fit f) where
       })
 
   -- who steps
-  pub goes-on : (s : State) → Sound f s → (p : ℕ) → p < processes f → isIdle (processAt (s .bench) p .stage) ≡ false → Steps f s p (processAt (s .bench) p)
+  pub goes-on : (s : State) → Sound f s → (p : ℕ) → p < processes f → isIdle (processAt (s .bench) p .stage) ≡ false
+      → Steps f s p (processAt (s .bench) p)
   goes-on s v p lt b = record { below = lt; busy = b; placed = v .each p lt; was = goes }
 
   first-in : (call : Call) → StageIn (f .width) (f .size) (firstStage call)
@@ -140,7 +145,8 @@ module _ (f : Sizes) (h : Fit f) where
 
     stays : StaysIn (f .width) (f .size) (rowAt f s p r)
     stays =
-        stays-in (f .width) (f .size) (queueAt (s .bench) (queueOf p (r .call)) .word) (loaded (slotsAt s (queueOf p (r .call))) (loadedSlot (r .stage))) (r .stage)
+        stays-in (f .width) (f .size) (queueAt (s .bench) (queueOf p (r .call)) .word)
+        (loaded (slotsAt s (queueOf p (r .call))) (loadedSlot (r .stage))) (r .stage)
         (v .words (queueOf p (r .call)) (k .placed .queue)) (k .placed .stage)
 
     stored-length : (l : List ℕ) (m : Store) → length (stored l m) ≡ length l
@@ -167,9 +173,13 @@ module _ (f : Sizes) (h : Fit f) where
           (λ e. stored-length (slotsAt s q) (o .store) ∙ v .sizes q (k .placed .queue)) (λ e. v .sizes j lt);
       each = λ j lt. if-set (λ (x : Process). Placed f j x) (s .bench .processes) p j r′ nobody (omega (arith, k .below, v .records, h .processes))
           (λ e. rw e placed-after) (λ e. v .each j lt);
-      later = λ j. if-set (λ (x : Process). isFirst (x .stage) ≡ false) (s .bench .processes) p j r′ nobody (omega (arith, k .below, v .records, h .processes))
-          (λ e. within (f .width) (f .size) (queueAt (s .bench) q .word) (loaded (slotsAt s q) (loadedSlot (r .stage))) (r .stage) .first) (λ e. v .later j);
-      absent = λ j le. if-set (λ (x : Process). x .stage ≡ Idle) (s .bench .processes) p j r′ nobody (omega (arith, k .below, v .records, h .processes))
+      later =
+          λ j. if-set (λ (x : Process). isFirst (x .stage) ≡ false) (s .bench .processes) p j r′ nobody
+          (omega (arith, k .below, v .records, h .processes))
+          (λ e. within (f .width) (f .size) (queueAt (s .bench) q .word) (loaded (slotsAt s q) (loadedSlot (r .stage))) (r .stage) .first)
+          (λ e. v .later j);
+      absent =
+          λ j le. if-set (λ (x : Process). x .stage ≡ Idle) (s .bench .processes) p j r′ nobody (omega (arith, k .below, v .records, h .processes))
           (λ e. absurd (apart j e le)) (λ e. v .absent j le);
     }
       where
@@ -193,7 +203,11 @@ module _ (f : Sizes) (h : Fit f) where
     records = z .records;
     tables = ap length (z .slots) ∙ length-replicate 8 (replicate {A = ℕ} (f .size) 0);
     words = λ q lt. subst (λ (l : List Queue). WordIn (f .width) (f .size) (getD l q fresh .word)) (sym (z .queues))
-        (rw (getD-replicate 8 q fresh fresh (omega (arith, h .processes))) (record { bottom-in = omega arith; top-in = omega arith; tag-in = pow-pos (f .width) }));
+        (rw (getD-replicate 8 q fresh fresh (omega (arith, h .processes))) (record {
+          bottom-in = omega arith;
+          top-in = omega arith;
+          tag-in = pow-pos (f .width);
+        }));
     sizes = λ q lt. subst (λ (l : List (List ℕ)). length (getD l q []) ≡ f .size) (sym (z .slots))
         (rw (getD-replicate 8 q (replicate {A = ℕ} (f .size) 0) [] (omega (arith, h .processes))) (length-replicate {A = ℕ} (f .size) 0));
     each = λ p lt. record {

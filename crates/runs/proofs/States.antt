@@ -43,7 +43,8 @@ scheduled-next f k lt =
 -- one more step of the closing
 pub closing-0 : (f : RunFile) → closing f 0 ≡ scheduled f (length (f .schedule))
 unfolding close
-closing-0 f = ap (λ (l : List ℕ). play (f .width) (f .size) (f .calls) l (start f)) (sym (take-all (length (f .schedule)) (f .schedule) (omega arith)))
+closing-0 f =
+    ap (λ (l : List ℕ). play (f .width) (f .size) (f .calls) l (start f)) (sym (take-all (length (f .schedule)) (f .schedule) (omega arith)))
 
 pub closing-next : (f : RunFile) (k : ℕ) → closing f (suc k) ≡ closes (f .width) (f .size) (closing f k)
 closing-next f k = close-next (f .width) (f .size) k (play (f .width) (f .size) (f .calls) (f .schedule) (start f))
@@ -75,7 +76,8 @@ module _ (f : RunFile) (h : InRanges f) where
   sound-of : (s : State) → Got s → Sound (sizesOf f) s
   sound-of s g = any-sound (sizesOf f) (fit f h) (ByScript f) (start f) (start-fresh f h) s (g .0)
 
-  got-act : (s : State) → StateOf f s → Got s → (p : ℕ) (r : Process) → Steps (sizesOf f) s p r → Scripted f p r → Got (act (f .width) (f .size) p r s)
+  got-act : (s : State) → StateOf f s → Got s → (p : ℕ) (r : Process) → Steps (sizesOf f) s p r → Scripted f p r
+      → Got (act (f .width) (f .size) p r s)
   got-act s i g p r k c =
       let v = sound-of s g in
       subst Got (sym (act-is (sizesOf f) s p r)) (acts s (g .0) p r k (c, i), each-act f h s v (g .1) p r k c)

@@ -34,7 +34,8 @@ entries-few (ends e) = omega arith
 pub gone-most : (r : Process) (resets : ℕ) (next : Next) → goneRound r resets next ≤ 1
 gone-most r resets (Going s) = omega arith
 gone-most r resets Done = omega arith
-gone-most r resets (Node x) = either-way (λ (n : ℕ). n ≤ 1) (isTake (r .call) && not (eqb (r .resetsAtT1) resets)) (λ e. omega arith) (λ e. omega arith)
+gone-most r resets (Node x) =
+    either-way (λ (n : ℕ). n ≤ 1) (isTake (r .call) && not (eqb (r .resetsAtT1) resets)) (λ e. omega arith) (λ e. omega arith)
 gone-most r resets Nil = omega arith
 gone-most r resets Lost = omega arith
 gone-most r resets Full = omega arith
@@ -72,7 +73,8 @@ unfolding act
 counted-act n W C p r s h k =
     let o = stepping W C p r s in
     let over = ending p r (s .bench) (o .next) in
-    let sum : n + length (s .log) + length (entriesIn over) ≡ n + length (s .log ++ entriesIn over) = omega (arith, length-append (s .log) (entriesIn over)) in
+    let sum : n + length (s .log) + length (entriesIn over) ≡ n + length (s .log ++ entriesIn over) =
+    omega (arith, length-append (s .log) (entriesIn over)) in
     subst (λ (m : ℕ). Counted m (benchAfter (s .bench) p (queueOf p (r .call)) r o)) sum
     (counted-step (n + length (s .log)) (s .bench) p (queueOf p (r .call)) r o over h k)
 

@@ -9,12 +9,14 @@ use Rattle.rules.specs.Judge.{judgeOf}
 use Rattle.rules.specs.Left.{Leaves}
 
 -- the number of bytes, the buffer, the report and the table
-pub scarpgoblet-run : (file log : List ℕ) (w w′ : ℕ) (b b′ r r′ t t′ : List ℕ) → Ran file log w b r t → Ran file log w′ b′ r′ t′ → (w ≡ w′) × (b ≡ b′) × (r ≡ r′) × (t ≡ t′)
+pub scarpgoblet-run : (file log : List ℕ) (w w′ : ℕ) (b b′ r r′ t t′ : List ℕ) → Ran file log w b r t → Ran file log w′ b′ r′ t′
+    → (w ≡ w′) × (b ≡ b′) × (r ≡ r′) × (t ≡ t′)
 scarpgoblet-run file log w w′ b b′ r r′ t t′ p q =
     (one-value (p .bytes) (q .bytes), one-value (p .kept) (q .kept), one-value (p .counts) (q .counts), one-value (p .queues) (q .queues))
 
 -- the number, the log buffer and the replies
-pub scarpgoblet-rack : (files log replies : List ℕ) (n n′ : ℕ) (l l′ r r′ : List ℕ) → Racked files log replies n l r → Racked files log replies n′ l′ r′
+pub scarpgoblet-rack : (files log replies : List ℕ) (n n′ : ℕ) (l l′ r r′ : List ℕ) → Racked files log replies n l r
+    → Racked files log replies n′ l′ r′
     → (n ≡ n′) × (l ≡ l′) × (r ≡ r′)
 scarpgoblet-rack files log replies n n′ l l′ r r′ p q =
     (one-value (p .numbered) (q .numbered), one-value (p .logged) (q .logged), one-value (p .replied) (q .replied))

@@ -72,9 +72,11 @@ left-as w o h k e =
     λ i. record { word = d i; store = o .store; reset = o .reset; next = o .next }
 
 -- a bottom, or a top, that goes round is the one of 16 bits
-pub bottom-as : (w : PackedWord) (x y : ℕ) (n : Next) → x ≡ y % 65536 → inSixteen (leaves (bottomTo (unpacked w) x) n) ≡ inSixteen (leaves (bottomTo (unpacked w) y) n)
+pub bottom-as : (w : PackedWord) (x y : ℕ) (n : Next) → x ≡ y % 65536
+    → inSixteen (leaves (bottomTo (unpacked w) x) n) ≡ inSixteen (leaves (bottomTo (unpacked w) y) n)
 bottom-as w x y n e = λ i. record {
-  word = record { bottom = (ap (λ (k : ℕ). k % 65536) e ∙ sixteen-again y) i; top = topOf (w .age .word) % 65536; tag = tagOf (w .age .word) % 65536 };
+  word =
+      record { bottom = (ap (λ (k : ℕ). k % 65536) e ∙ sixteen-again y) i; top = topOf (w .age .word) % 65536; tag = tagOf (w .age .word) % 65536 };
   store = leaves (unpacked w) n .store;
   reset = false;
   next = n;
@@ -116,7 +118,8 @@ reset-as W w t g n a h k e =
     }
 
 -- the promise from its two equations
-pub packed-is : (W C : ℕ) (w : PackedWord) (slots : List ℕ) (s : Stage) (answer : PackedStep) (after : List ℕ) → unpackedStep answer ≡ inSixteen (steppedOn W C (unpacked w) slots s)
+pub packed-is : (W C : ℕ) (w : PackedWord) (slots : List ℕ) (s : Stage) (answer : PackedStep) (after : List ℕ)
+    → unpackedStep answer ≡ inSixteen (steppedOn W C (unpacked w) slots s)
     → after ≡ stored slots (steppedOn W C (unpacked w) slots s .store) → StepPacked W C w slots s answer after
 packed-is W C w slots s answer after e k = record {
   aged = sym (packed-again (answer .word .age .word)) ∙ ap (λ (o : Stepped). packed (o .word .top) (o .word .tag)) e;
@@ -124,7 +127,8 @@ packed-is W C w slots s answer after e k = record {
 }
 
 -- a word of three numbers, packed, stepped and unpacked
-pub on-three : (W C : ℕ) (w : Word) (slots : List ℕ) (s : Stage) (m : PackedWord) (o : PackedStep) (r : Stepped) (after : List ℕ) → w .top < 65536 → m ≡ packedWord w
+pub on-three : (W C : ℕ) (w : Word) (slots : List ℕ) (s : Stage) (m : PackedWord) (o : PackedStep) (r : Stepped) (after : List ℕ) → w .top < 65536
+    → m ≡ packedWord w
     → StepPacked W C m slots s o after → r ≡ unpackedStep o → StepOn W C w slots s r after
 on-three W C w slots s m o r after h e d k =
     subst (λ (x : Stepped). StepOn W C w slots s x after) (sym k)

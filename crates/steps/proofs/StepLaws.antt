@@ -218,7 +218,8 @@ B4-loads W C w v b x =
     either-way (λ (r : Stepped). Carries (w .top) (w .tag) (stageAfter (r .next))) (ltb (w .top) (b - 1)) (λ e. tt) (λ e. (refl, refl))
 
 -- the same after any number of own steps
-pub carries-all : (W C : ℕ) (words : ℕ → Word) (slots : ℕ → ℕ) (t′ g′ k : ℕ) (s : Stage) → Carries t′ g′ s → Carries t′ g′ (ownSteps W C words slots k s)
+pub carries-all : (W C : ℕ) (words : ℕ → Word) (slots : ℕ → ℕ) (t′ g′ k : ℕ) (s : Stage) → Carries t′ g′ s
+    → Carries t′ g′ (ownSteps W C words slots k s)
 carries-all W C words slots t′ g′ zero s h = h
 carries-all W C words slots t′ g′ (suc k) s h =
     carries-all W C words slots t′ g′ k (stageAfter (rowOf W C (words k) (slots k) s .next)) (carries-on W C (words k) (slots k) t′ g′ s h)
@@ -229,7 +230,8 @@ pub B7-stores : (W C : ℕ) (w w′ : Word) (v v′ b x : ℕ) (words : ℕ → 
     rowOf W C w′ v′ (B7 b′ x′ t g) ≡ resets W w′ (w .tag) Nil
 B7-stores W C w w′ v v′ b x words slots k b′ x′ t g e =
     let h : Carries (w .top) (w .tag) (B7 b′ x′ t g) =
-    subst (Carries (w .top) (w .tag)) e (carries-all W C words slots (w .top) (w .tag) k (stageAfter (rowOf W C w v (B4 b x) .next)) (B4-loads W C w v b x)) in
+    subst (Carries (w .top) (w .tag)) e
+    (carries-all W C words slots (w .top) (w .tag) k (stageAfter (rowOf W C w v (B4 b x) .next)) (B4-loads W C w v b x)) in
     ap (λ (j : ℕ). resets W w′ j Nil) (h .1)
 
 -- the promise from its two equations: the values of the answer are those of what it equals

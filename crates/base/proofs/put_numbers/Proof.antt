@@ -35,8 +35,11 @@ loop-again : tie.Need-loop-again Inv-loop μ-loop
 loop-again c =
     let a = c .before .before .before .before .before .args in
     let l = c .before .before .loop in
-    let room : a .at + l .i < length (a .buffer .now) = omega arith in
-    (search needs, rw (l .inv .1, add-one) (paste-suc (a .buffer .now) (a .at) (a .numbers .now) (l .i) 0 room (c .before .loop-test .taken)), simp length-set (l .inv .2))
+    let room : a .at + l .i < length (a .buffer .now) = omega arith in (
+      search needs,
+      rw (l .inv .1, add-one) (paste-suc (a .buffer .now) (a .at) (a .numbers .now) (l .i) 0 room (c .before .loop-test .taken)),
+      simp length-set (l .inv .2),
+    )
 
 returns-3 : tie.Need-returns-3 Inv-loop μ-loop
 returns-3 c =

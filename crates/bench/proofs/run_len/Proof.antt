@@ -6,10 +6,13 @@ use Rattle.bench.proofs.run_len.Statement.{statement}
 use Rattle.bench.proofs.run_len.Tie as tie
 
 run-good-requires : tie.Need-run-good-requires
-run-good-requires c κs = sym (c .before .before .before .before .before .before .read .ensures .answer) ∙ c .before .before .before .before .reading2 .given .1
+run-good-requires c κs =
+    sym (c .before .before .before .before .before .before .read .ensures .answer) ∙ c .before .before .before .before .reading2 .given .1
 
 returns : tie.Need-returns
-returns c = refusal-gives _ _ _ _ _ _ (gives-refused _ _ _ (sym (c .before .before .before .before .before .before .read .ensures .answer) ∙ c .before .before .before .before .reading .given .1)) (c .refuse .ensures)
+returns c =
+    refusal-gives _ _ _ _ _ _ (gives-refused _ _ _ (sym (c .before .before .before .before .before .before .read .ensures .answer) ∙ c .before .before .before .before .reading .given .1))
+    (c .refuse .ensures)
 
 returns-2 : tie.Need-returns-2
 returns-2 c = c .before .before .run-good .ensures

@@ -67,7 +67,8 @@ use Rattle.desk.proofs.step.Key.{name as #step}
 use Rattle.desk.proofs.step as step
 use Rattle.desk.proofs.step.Statement as stated
 use Rattle.desk.proofs.step.Code as code
-use Rattle.desk.proofs.Values.{word-val, stage-val, answer-val, u8-makes, word-makes, stage-makes, answer-makes, word-lawful, stage-lawful, answer-lawful, desk-lawful}
+use Rattle.desk.proofs.Values.{word-val, stage-val, answer-val, u8-makes, word-makes, stage-makes, answer-makes, word-lawful, stage-lawful}
+use Rattle.desk.proofs.Values.{answer-lawful, desk-lawful}
 
 -- at exit the word's borrow is still owned, and the slice's has been given up
 abbrev stayed : Stays (step.ended .signature .params) (step.ended .kept)

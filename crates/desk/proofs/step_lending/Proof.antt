@@ -69,7 +69,8 @@ use Rattle.desk.proofs.step_lending.Key.{name as #lending}
 use Rattle.desk.proofs.step_lending as lending
 use Rattle.desk.proofs.step_lending.Statement as stated
 use Rattle.desk.proofs.step_lending.Code as code
-use Rattle.desk.proofs.Values.{word-val, stage-val, answer-val, desk-val, u8-makes, word-makes, stage-makes, desk-makes, word-lawful, stage-lawful, answer-lawful, desk-lawful}
+use Rattle.desk.proofs.Values.{word-val, stage-val, answer-val, desk-val, u8-makes, word-makes, stage-makes, desk-makes, word-lawful}
+use Rattle.desk.proofs.Values.{stage-lawful, answer-lawful, desk-lawful}
 
 -- at exit the slice's borrow has been given up
 abbrev stayed : Stays (lending.ended .signature .params) (lending.ended .kept)

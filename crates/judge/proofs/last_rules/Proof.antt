@@ -38,7 +38,8 @@ returns-3 c =
     let e5 = c .before .before .before in
     let a = start e5 .args in
     let k = start e5 .pre .3 in
-    says0 (entryAt (a .log .now)) (a .n) (a .slots) _ (k .0) (k .1) (kept5 e5) (pass _ _ _ (c .before .before .first-unfilled .ensures) (c .before .if2 .left))
+    says0 (entryAt (a .log .now)) (a .n) (a .slots) _ (k .0) (k .1) (kept5 e5)
+    (pass _ _ _ (c .before .before .first-unfilled .ensures) (c .before .if2 .left))
     (c .verdict-of3 .ensures)
 
 pub last-rules-spec : {M : Type 1} → statement M

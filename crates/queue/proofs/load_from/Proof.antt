@@ -13,7 +13,8 @@ returns-2 : tie.Need-returns-2
 returns-2 c = rw (sym (c .before .before .before .before .before .loaded-slot .ensures) ∙ c .before .before .before .from .given .1)
 
 returns-3 : tie.Need-returns-3
-returns-3 c = rw (sym (c .before .before .before .before .loaded-slot .ensures) ∙ c .before .before .from .given .1, List·getD-eq-default {A = ℕ} _ 0 (c .if1 .left))
+returns-3 c =
+    rw (sym (c .before .before .before .before .loaded-slot .ensures) ∙ c .before .before .from .given .1, List·getD-eq-default {A = ℕ} _ 0 (c .if1 .left))
 
 pub load-from-spec : {M : Type 1} → statement M
 load-from-spec =

@@ -72,8 +72,10 @@ refuses-all b h = h (K1 .file) (empty K1) (fitting (K1 .file) refl) (zeros (room
 same-log : (b : Bench) (log : List ℕ) → Always b (λ g. g .log ≡ log) → ⊥
 unfolding runOf logBytes
 same-log b log h =
-    let three : length log ≡ 41 = sym (ap length (h (K1 .file) (empty K1) (fitting (K1 .file) refl) (zeros (room K1)))) ∙ ap length (log-is b K1 refl) in
-    let none : length log ≡ 5 = sym (ap length (h (K8 .file) (empty K8) (fitting (K8 .file) refl) (zeros (room K8)))) ∙ ap length (log-is b K8 refl) in
+    let three : length log ≡ 41 = sym (ap length (h (K1 .file) (empty K1) (fitting (K1 .file) refl) (zeros (room K1))))
+    ∙ ap length (log-is b K1 refl) in
+    let none : length log ≡ 5 = sym (ap length (h (K8 .file) (empty K8) (fitting (K8 .file) refl) (zeros (room K8))))
+    ∙ ap length (log-is b K8 refl) in
     omega arith
 
 -- the bottom of queue 0 is 2 after K3
@@ -81,7 +83,8 @@ moves-nothing : (b : Bench) → Always b (λ g. g .table ≡ replicate tableSize
 unfolding runOf
 moves-nothing b h =
     let e : _≡_ {A = ℕ} 2 0 =
-    sym (ap (λ (l : List ℕ). getD l 0 0) (table-is b K3 refl)) ∙ ap (λ (l : List ℕ). getD l 0 0) (h (K3 .file) (empty K3) (fitting (K3 .file) refl) (zeros (room K3))) in
+    sym (ap (λ (l : List ℕ). getD l 0 0) (table-is b K3 refl))
+    ∙ ap (λ (l : List ℕ). getD l 0 0) (h (K3 .file) (empty K3) (fitting (K3 .file) refl) (zeros (room K3))) in
     omega arith
 
 -- the first push of K1 starts at 0 and ends at 2

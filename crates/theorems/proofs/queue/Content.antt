@@ -43,7 +43,8 @@ event-none : (q x : ℕ) (c : List ℕ) → event [] q x c ≡ c
 unfolding event
 event-none q x c = refl
 
-event-cons : (e : Entry) (l : List Entry) (q x : ℕ) (c : List ℕ) → event (e ∷ l) q x c ≡ cond (happens q x e) (applied (what e) (e .node) c) (event l q x c)
+event-cons : (e : Entry) (l : List Entry) (q x : ℕ) (c : List ℕ)
+    → event (e ∷ l) q x c ≡ cond (happens q x e) (applied (what e) (e .node) c) (event l q x c)
 unfolding event
 event-cons e l q x c = by (happens q x e) refl
   where
@@ -89,7 +90,8 @@ event-snoc P [] e q x c a f = rw (event-cons e [] q x c) (by (happens q x e) ref
     by true h = f (event-none q x c) h
     by false h = a
 event-snoc P (d ∷ l) e q x c a f =
-    rw (event-cons d (l ++ (e ∷ [])) q x c) (by (happens q x d) (rw (event-cons d l q x c) at a) (λ b. f (event-cons d l q x c ∙ b)) (event-snoc P l e q x c))
+    rw (event-cons d (l ++ (e ∷ [])) q x c)
+    (by (happens q x d) (rw (event-cons d l q x c) at a) (λ b. f (event-cons d l q x c ∙ b)) (event-snoc P l e q x c))
   where
     by : (t : Bool) → P (cond t (applied (what d) (d .node) c) (event l q x c))
         → (cond t (applied (what d) (d .node) c) (event l q x c) ≡ c → happens q x e ≡ true → P (applied (what e) (e .node) c))
@@ -98,7 +100,8 @@ event-snoc P (d ∷ l) e q x c a f =
     by true a f more = a
     by false a f more = more a f
 
-event-hit : (l : List Entry) (e : Entry) (q x : ℕ) (c : List ℕ) → Free l x → happens q x e ≡ true → event (l ++ (e ∷ [])) q x c ≡ applied (what e) (e .node) c
+event-hit : (l : List Entry) (e : Entry) (q x : ℕ) (c : List ℕ) → Free l x → happens q x e ≡ true
+    → event (l ++ (e ∷ [])) q x c ≡ applied (what e) (e .node) c
 event-hit [] e q x c f h = event-cons e [] q x c ∙ rw h
 event-hit (d ∷ l) e q x c f h = event-cons d (l ++ (e ∷ [])) q x c ∙ rw (free-not d q x (f .0)) (event-hit l e q x c (f .1) h)
 
@@ -157,12 +160,14 @@ add-none l e q pd f x =
     x (omega arith)
 
 -- an entry of another queue
-pub add-other : (l : List Entry) (e : Entry) (q : ℕ) (pd : Option ℕ) → (e .queue ≡ q → ⊥) → (x : ℕ) → content (l ++ (e ∷ [])) q pd x ≡ content l q pd x
+pub add-other : (l : List Entry) (e : Entry) (q : ℕ) (pd : Option ℕ) → (e .queue ≡ q → ⊥) → (x : ℕ)
+    → content (l ++ (e ∷ [])) q pd x ≡ content l q pd x
 add-other l e q pd f x =
     agree l q pd (l ++ (e ∷ [])) pd x (λ y i. rw (event-miss l e q y (content l q pd y) (λ a. f (happens-on e q y a)))) x (omega arith)
 
 -- an entry at a new moment: before it, and at it
-pub add-past : (l : List Entry) (e : Entry) (q : ℕ) (pd : Option ℕ) (n : ℕ) → e .moment ≡ n → (x : ℕ) → x ≤ n → content (l ++ (e ∷ [])) q pd x ≡ content l q pd x
+pub add-past : (l : List Entry) (e : Entry) (q : ℕ) (pd : Option ℕ) (n : ℕ) → e .moment ≡ n → (x : ℕ) → x ≤ n
+    → content (l ++ (e ∷ [])) q pd x ≡ content l q pd x
 add-past l e q pd n h x g =
     agree l q pd (l ++ (e ∷ [])) pd n (λ y i. rw (event-miss l e q y (content l q pd y) (λ a. let b = happens-at e q y a in omega arith))) x g
 

@@ -39,8 +39,10 @@ AtOwner C nd m B1 = Unit {0}
 AtOwner C nd m (B2 b) = (b ≡ m .word .bottom) × (1 ≤ b)
 AtOwner C nd m (B3 b) = (m .word .bottom + 1 ≡ b) × (b ≤ C)
 AtOwner C nd m (B4 b x) = (m .word .bottom + 1 ≡ b) × (b ≤ C) × (getD (m .slots) (b - 1) 0 ≡ x)
-AtOwner C nd m (B5 b x t g) = (m .word .bottom + 1 ≡ b) × (b ≤ C) × (getD (m .slots) (b - 1) 0 ≡ x) × (b ≤ t + 1) × (t ≤ m .word .top) × (g ≡ m .word .tag)
-AtOwner C nd m (B6 b x t g) = (m .word .bottom ≡ 0) × (b ≤ C) × (getD (m .slots) (b - 1) 0 ≡ x) × (b ≡ t + 1) × (t ≤ m .word .top) × (g ≡ m .word .tag)
+AtOwner C nd m (B5 b x t g) =
+    (m .word .bottom + 1 ≡ b) × (b ≤ C) × (getD (m .slots) (b - 1) 0 ≡ x) × (b ≤ t + 1) × (t ≤ m .word .top) × (g ≡ m .word .tag)
+AtOwner C nd m (B6 b x t g) =
+    (m .word .bottom ≡ 0) × (b ≤ C) × (getD (m .slots) (b - 1) 0 ≡ x) × (b ≡ t + 1) × (t ≤ m .word .top) × (g ≡ m .word .tag)
 AtOwner C nd m (B7 b x t g) = (m .word .bottom ≡ 0) × (1 ≤ b) × (b ≤ C) × (m .word .top ≡ b) × (t ≤ m .word .top) × (g ≡ m .word .tag)
 
 -- the numbers of the queue and its owner: the top is at most the bottom, or the b of an owner past B2
@@ -110,7 +112,8 @@ pub data Change (n p q : ℕ) (m m′ : Memory) (K : ℕ → List ℕ) (l′ : L
 
 -- an owner past B2 with one node left: it was so before, or its B2 is this step
 pub data Edge (n : ℕ) (m : Memory) (s : Stage) (k : ℕ) (m′ : Memory) (k′ : ℕ) (K : ℕ → List ℕ) : Type 0 where
-  old : pastB2 s ≡ true → lim (m .word .bottom) s ≡ m .word .top + 1 → k′ ≡ k → k < n → getD (m′ .slots) (m .word .top) 0 ≡ getD (m .slots) (m .word .top) 0
+  old : pastB2 s ≡ true → lim (m .word .bottom) s ≡ m .word .top + 1 → k′ ≡ k → k < n
+      → getD (m′ .slots) (m .word .top) 0 ≡ getD (m .slots) (m .word .top) 0
       → Edge n m s k m′ k′ K
   new : k′ ≡ n → K (2 * n) ≡ getD (m′ .slots) (m .word .top) 0 ∷ [] → Edge n m s k m′ k′ K
 
@@ -118,7 +121,8 @@ pub record Rely (n p q : ℕ) (l : List Entry) (m : Memory) (s : Stage) (k : ℕ
     (K′ : ℕ → List ℕ) : Type 0 where
   pub calm : Calm m s m′ s′
   pub change : Change n p q m m′ K l′
-  pub edge : m′ .resets ≡ m .resets → m′ .word .top ≡ m .word .top → pastB2 s′ ≡ true → lim (m′ .word .bottom) s′ ≡ m .word .top + 1 → Edge n m s k m′ k′ K
+  pub edge : m′ .resets ≡ m .resets → m′ .word .top ≡ m .word .top → pastB2 s′ ≡ true → lim (m′ .word .bottom) s′ ≡ m .word .top + 1
+      → Edge n m s k m′ k′ K
   -- no step changes what was
   pub kept : (x : ℕ) → x ≤ 2 * n → K′ x ≡ K x
 

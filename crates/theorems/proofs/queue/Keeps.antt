@@ -23,7 +23,8 @@ cause-now l K p q f n h e =
     let d : suc (2 * n - 1) ≡ 2 * n = omega arith in
     empty (2 * n - 1) (omega arith) (omega arith) (rw d e)
 
-module _ (C : ℕ) {n p q : ℕ} {l : List Entry} {m : Memory} {s : Stage} {k : ℕ} {K : ℕ → List ℕ} {l′ : List Entry} {m′ : Memory} {s′ : Stage} {k′ : ℕ} {K′ : ℕ → List ℕ}
+module _ (C : ℕ) {n p q : ℕ} {l : List Entry} {m : Memory} {s : Stage} {k : ℕ} {K : ℕ → List ℕ} {l′ : List Entry} {m′ : Memory} {s′ : Stage} {k′ : ℕ}
+    {K′ : ℕ → List ℕ}
     (y : Rely n p q l m s k K l′ m′ s′ k′ K′) (i : (e : Entry) → In e l → In e l′) (r f j : ℕ) (ne : p ≡ r → ⊥) where
   why-keeps : (t : ℕ) → f < n → Why n r q f j t l m K → Change n p q m m′ K l′ → Why (n + 1) r q f j t l′ m′ K′
   why-keeps t h (hit c) z = hit (cause-keeps l K l′ K′ r q f (2 * n) (2 * (n + 1)) i (y .kept) (omega arith) c)

@@ -34,7 +34,8 @@ use Rattle.base.proofs.Lists.{all-snoc}
 use Rattle.theorems.proofs.queue.Lists.{drop-last, slice-none, slice-snoc, one-node}
 use Rattle.theorems.proofs.queue.Content.{Free, event-free, isAt, content, still-from, add-none, add-past, add-at, swap, pend-past, pend-at}
 use Rattle.theorems.proofs.queue.Memory.{Memory, rowIn, memoryAfter, withBottom, withSlot, lim, until, logAfter}
-use Rattle.theorems.proofs.queue.Inv.{Control, QueueOk, Held, Calm, Change, still, void, old, new, same, more, NewOk, Right, Turn, view, pending}
+use Rattle.theorems.proofs.queue.Inv.{Control, QueueOk, Held, Calm, Change, still, void, old, new, same, more, NewOk, Right, Turn, view}
+use Rattle.theorems.proofs.queue.Inv.{pending}
 
 -- from the step n on the log has no moments
 abbrev pub Old : ℕ → List Entry → Type 0
@@ -48,7 +49,8 @@ pub held-keep : (n : ℕ) (l : List Entry) (m : Memory) (s : Stage) (k : ℕ) (K
     → ((x : ℕ) → x ≤ 2 * n → K′ x ≡ K x) → lim (m′ .word .bottom) s′ ≡ lim (m .word .bottom) s → m′ .slots ≡ m .slots
     → (m′ .word .top < lim (m .word .bottom) s → m .word .top < lim (m .word .bottom) s)
     → (lim (m .word .bottom) s ≤ m′ .word .top → lim (m .word .bottom) s ≤ m .word .top)
-    → (k < n → Free l (2 * k) → Free l′ (2 * k)) → (k < n → Free l (suc (2 * k)) → Free l′ (suc (2 * k))) → Held n l m s k K → Held (n + 1) l′ m′ s′ k K′
+    → (k < n → Free l (2 * k) → Free l′ (2 * k)) → (k < n → Free l (suc (2 * k)) → Free l′ (suc (2 * k))) → Held n l m s k K
+    → Held (n + 1) l′ m′ s′ k K′
 held-keep n l m s k K l′ m′ s′ K′ kept e d a b u v h =
     let late = h .late in
     record {
@@ -60,7 +62,8 @@ held-keep n l m s k K l′ m′ s′ K′ kept e d a b u v h =
     }
 
 -- a new event at the moment 2 × n, and none after it
-pub event-on : (n q : ℕ) (l : List Entry) (e : Entry) (pd : Option ℕ) → Old n l → ((x : ℕ) → 2 * n ≤ x → isAt pd x ≡ false) → bears e ≡ true → e .queue ≡ q
+pub event-on : (n q : ℕ) (l : List Entry) (e : Entry) (pd : Option ℕ) → Old n l → ((x : ℕ) → 2 * n ≤ x → isAt pd x ≡ false) → bears e ≡ true
+    → e .queue ≡ q
     → e .moment ≡ 2 * n
     → (x : ℕ) → 2 * (n + 1) ≤ x → content (l ++ (e ∷ [])) q pd x ≡ applied (what e) (e .node) (content l q pd (2 * n))
 event-on n q l e pd o i a b d x h =
@@ -73,7 +76,8 @@ event-on n q l e pd o i a b d x h =
 pub new-entry : {n p : ℕ} (r : Process) (w : What) (x t : ℕ) {l : List Entry} {s : Stage} {k : ℕ} {l′ : List Entry} {K′ : ℕ → List ℕ} → r .start ≤ n
     → (bears (entry p n r w x t) ≡ true → 2 * r .start ≤ t) → (bears (entry p n r w x t) ≡ true → t ≤ 2 * n + 1)
     → Right l′ K′ (entry p n r w x t) (what (entry p n r w x t))
-    → (bears (entry p n r w x t) ≡ true → Free l t) → (bears (entry p n r w x t) ≡ true → (2 * n ≤ t) ⊎ ((pastB2 s ≡ true) × (2 * k ≤ t) × (t ≤ 2 * k + 1)))
+    → (bears (entry p n r w x t) ≡ true → Free l t)
+    → (bears (entry p n r w x t) ≡ true → (2 * n ≤ t) ⊎ ((pastB2 s ≡ true) × (2 * k ≤ t) × (t ≤ 2 * k + 1)))
     → (what (entry p n r w x t) ≡ Pushed → r .call ≡ Push x) → NewOk n p (queueOf p (r .call)) (r .start) (r .call) l s k l′ K′ (entry p n r w x t)
 new-entry {n} r w x t order from to right fresh clear node = record {
   by-process = refl;
@@ -96,7 +100,8 @@ lt-not : (a b : ℕ) → a < b → b ≤ a → ⊥
 lt-not a b h i = omega arith
 
 -- the owner, process p, at the step n; its call, begun at f, with its B2 at k
-module _ (W C n p : ℕ) (call : Call) (place stop f k seen : ℕ) (owner : Process) (top : ℕ) (no-take : isTake call ≡ false) (l : List Entry) (m : Memory)
+module _ (W C n p : ℕ) (call : Call) (place stop f k seen : ℕ) (owner : Process) (top : ℕ) (no-take : isTake call ≡ false) (l : List Entry)
+    (m : Memory)
     (o : Old n l) (f-le : f ≤ n) where
   abbrev nd : ℕ
   nd = pushedNode call
@@ -108,7 +113,8 @@ module _ (W C n p : ℕ) (call : Call) (place stop f k seen : ℕ) (owner : Proc
   at z = record { stage = z; call = call; next = place; stop = stop; start = f; b2 = k; resetsAtT1 = seen }
 
   abbrev P : Stage → Stepped → Type 0
-  P z u = Turn C n p q f call nd l m z k (logAfter l (ended p n (at z) owner top (u .next))) (memoryAfter m u) (stageAfter (u .next)) (cond (atB2 z) n k)
+  P z u =
+      Turn C n p q f call nd l m z k (logAfter l (ended p n (at z) owner top (u .next))) (memoryAfter m u) (stageAfter (u .next)) (cond (atB2 z) n k)
 
   abbrev Q : Stage → Type 0
   Q z = QueueOk C n nd l m z k (view q l m z k)
@@ -130,7 +136,8 @@ module _ (W C n p : ℕ) (call : Call) (place stop f k seen : ℕ) (owner : Proc
       }
 
   -- a step that ends no call, past B2
-  on : (z : Stage) (m′ : Memory) (z′ : Stage) → pastB2 z ≡ true → pastB2 z′ ≡ true → Q z → Control C nd m′ z′ → Calm m z m′ z′ → m′ .word .top ≡ m .word .top
+  on : (z : Stage) (m′ : Memory) (z′ : Stage) → pastB2 z ≡ true → pastB2 z′ ≡ true → Q z → Control C nd m′ z′ → Calm m z m′ z′
+      → m′ .word .top ≡ m .word .top
       → m′ .resets ≡ m .resets → m′ .slots ≡ m .slots
       → lim (m′ .word .bottom) z′ ≡ lim (m .word .bottom) z → Turn C n p q f call nd l m z k l m′ z′ k
   on z m′ z′ a b h i j t r u v =
@@ -142,7 +149,9 @@ module _ (W C n p : ℕ) (call : Call) (place stop f k seen : ℕ) (owner : Proc
         own = record {
           ctl = i;
           now-on = λ x g. kp x ∙ h .now-on x (omega arith) ∙ sl;
-          held = λ e. held-keep n l m z k (view q l m z k) l m′ z′ (view q l m′ z′ k) (λ x g. kp x) v u (λ g. omega arith) (λ g. omega arith) (λ d g. g) (λ d g. g)
+          held =
+              λ e. held-keep n l m z k (view q l m z k) l m′ z′ (view q l m′ z′ k) (λ x g. kp x) v u (λ g. omega arith) (λ g. omega arith) (λ d g. g)
+              (λ d g. g)
               (h .held a);
         };
         rely = record { calm = j; change = still t r; edge = λ e d g y. old a (omega arith) refl (h .held a .late) (rw u refl); kept = λ x g. kp x };
@@ -150,7 +159,8 @@ module _ (W C n p : ℕ) (call : Call) (place stop f k seen : ℕ) (owner : Proc
       }
 
   -- a step that ends the call and leaves the nodes as they are
-  writes : (e : Entry) (z : Stage) (m′ : Memory) (k′ : ℕ) → Q z → Control C nd m′ Idle → Calm m z m′ Idle → Change n p q m m′ (view q l m z k) (l ++ (e ∷ []))
+  writes : (e : Entry) (z : Stage) (m′ : Memory) (k′ : ℕ) → Q z → Control C nd m′ Idle → Calm m z m′ Idle
+      → Change n p q m m′ (view q l m z k) (l ++ (e ∷ []))
       → ((x : ℕ) → content (l ++ (e ∷ [])) q none x ≡ view q l m z k x)
       → slice (m .word .top) (until (m .word .bottom) z) (m .slots) ≡ slice (m′ .word .top) (m′ .word .bottom) (m′ .slots)
       → NewOk n p q f call l z k (l ++ (e ∷ [])) (content (l ++ (e ∷ [])) q none) e
@@ -169,7 +179,8 @@ module _ (W C n p : ℕ) (call : Call) (place stop f k seen : ℕ) (owner : Proc
       let b′ : b ≡ suc (b - 1) = omega arith in
       let y : slice (m .word .top) b (m .slots) ≡ slice (m .word .top) (b - 1) (m .slots) ++ (getD (m .slots) (b - 1) 0 ∷ [])
       = ap (λ (j : ℕ). slice (m .word .top) j (m .slots)) b′ ∙ slice-snoc (m .word .top) (b - 1) (m .slots) (omega arith) (omega arith) in
-      let was : content l q none (2 * n) ≡ slice (m .word .top) b (m .slots) = h .now-on (2 * n) (omega arith) ∙ ap (λ (j : ℕ). slice (m .word .top) j (m .slots))
+      let was : content l q none (2 * n) ≡ slice (m .word .top) b (m .slots) = h .now-on (2 * n) (omega arith)
+      ∙ ap (λ (j : ℕ). slice (m .word .top) j (m .slots))
       (sym (u .at .0)) in
       let pd : ltb (m .word .top) b ≡ true = lt-ltb (m .word .top) b d in
       record {
@@ -223,7 +234,8 @@ module _ (W C n p : ℕ) (call : Call) (place stop f k seen : ℕ) (owner : Proc
   -- the owner's pop with a node
   popped : (x : ℕ) (z s : Stage) (K : ℕ → List ℕ) → f ≤ k → pastB2 s ≡ true → Held n l m s k K → getD (m .slots) (lim (m .word .bottom) s - 1) 0 ≡ x
       → ((i : ℕ) → content (l ++ (entry p n (at z) BottomNode x (2 * k) ∷ [])) q none i ≡ K i) → m .word .top < lim (m .word .bottom) s
-      → NewOk n p q f call l s k (l ++ (entry p n (at z) BottomNode x (2 * k) ∷ [])) (content (l ++ (entry p n (at z) BottomNode x (2 * k) ∷ [])) q none) (entry p n (at z) BottomNode x (2 * k))
+      → NewOk n p q f call l s k (l ++ (entry p n (at z) BottomNode x (2 * k) ∷ []))
+      (content (l ++ (entry p n (at z) BottomNode x (2 * k) ∷ [])) q none) (entry p n (at z) BottomNode x (2 * k))
   popped x z s K g ps w e kp t =
       let v = w .mine t in
       new-entry (at z) BottomNode x (2 * k) f-le
@@ -236,13 +248,15 @@ module _ (W C n p : ℕ) (call : Call) (place stop f k seen : ℕ) (owner : Proc
       let u = h .ctl in
       if-eq (P (P1 x)) (m .word .bottom) C
       (λ e.
-      writes (entry p n (at (P1 x)) Full nd noMoment) (P1 x) m k h (omega arith) (omega arith) (still refl refl) (add-none l _ q none (λ c. refl)) refl
+      writes (entry p n (at (P1 x)) Full nd noMoment) (P1 x) m k h (omega arith) (omega arith) (still refl refl)
+      (add-none l _ q none (λ c. refl)) refl
       (new-entry (at (P1 x)) Full nd noMoment f-le
       (λ e. never e) (λ e. never e) tt (λ e. never e) (λ e. never e) (λ e. pc refl)))
       (λ e. quiet (P1 x) m (P2 x (m .word .bottom)) k refl refl h (omega arith) (omega arith) refl refl refl refl)
   owner-turn (P2 x b) i pc g h =
       let u = h .ctl in
-      let z : take (m .word .bottom) (set (m .slots) b x) ≡ take (m .word .bottom) (m .slots) = take-set-le (m .word .bottom) (m .slots) b x (omega arith) in
+      let z : take (m .word .bottom) (set (m .slots) b x) ≡ take (m .word .bottom) (m .slots) =
+      take-set-le (m .word .bottom) (m .slots) b x (omega arith) in
       let s : getD (set (m .slots) b x) b 0 ≡ x = getD-set-same (m .slots) b x 0 (omega arith) in
       let d : length (set (m .slots) b x) ≡ length (m .slots) = length-set (m .slots) b x in
       let v : (t : ℕ) → t < b → getD (set (m .slots) b x) t 0 ≡ getD (m .slots) t 0 = λ t k. getD-set-other (m .slots) b t x 0 (omega arith) in
@@ -252,7 +266,8 @@ module _ (W C n p : ℕ) (call : Call) (place stop f k seen : ℕ) (owner : Proc
       let u = h .ctl in
       let e : Entry = entry p n (at (P3 b)) Pushed nd (2 * n) in
       let y = slice-snoc (m .word .top) b (m .slots) (omega arith) (omega arith) in
-      let v : slice (m .word .top) (m .word .bottom) (m .slots) ++ (nd ∷ []) ≡ slice (m .word .top) (b + 1) (m .slots) = rw (add-one, y, u .at .2, u .at .0) refl in
+      let v : slice (m .word .top) (m .word .bottom) (m .slots) ++ (nd ∷ []) ≡ slice (m .word .top) (b + 1) (m .slots) =
+      rw (add-one, y, u .at .2, u .at .0) refl in
       record {
         own = record {
           ctl = omega arith;
@@ -278,7 +293,8 @@ module _ (W C n p : ℕ) (call : Call) (place stop f k seen : ℕ) (owner : Proc
       (m .word .bottom) (m .slots) (omega arith)) (λ d. o (2 * n) (omega arith)) (λ d. inl (omega arith)) (λ d. absurd (nil-not d)))))
       (λ e. quiet B1 m (B2 (m .word .bottom)) k refl refl h (omega arith) (omega arith) refl refl refl refl)
   owner-turn (B2 b) i pc g h = lower b h (decLt (m .word .top) b)
-  owner-turn (B3 b) i pc g h = let u = h .ctl in on (B3 b) m (B4 b (getD (m .slots) (b - 1) 0)) refl refl h (omega arith) (omega arith) refl refl refl refl
+  owner-turn (B3 b) i pc g h =
+      let u = h .ctl in on (B3 b) m (B4 b (getD (m .slots) (b - 1) 0)) refl refl h (omega arith) (omega arith) refl refl refl refl
   owner-turn (B4 b x) i pc g h =
       let u = h .ctl in
       if-lt (P (B4 b x)) (m .word .top) (b - 1)
@@ -321,5 +337,6 @@ module _ (W C n p : ℕ) (call : Call) (place stop f k seen : ℕ) (owner : Proc
       rw no-take (writes y (B7 b x t a) _ k h (omega arith) (omega arith) (void (h .now-on (2 * n) (omega arith) ∙ v)) kp
       (v ∙ sym (slice-none 0 (m .word .bottom) (m .slots) (omega arith)))
       (new-entry (at (B7 b x t a)) BottomNil 0 (2 * k + 1) f-le
-      (λ d. omega (arith, g refl)) (λ d. omega (arith, w .late)) (let j : 2 * k + 1 ≡ suc (2 * k) = omega arith in ap (content (l ++ (y ∷ [])) q none) j ∙ kp
+      (λ d. omega (arith, g refl)) (λ d. omega (arith, w .late))
+      (let j : 2 * k + 1 ≡ suc (2 * k) = omega arith in ap (content (l ++ (y ∷ [])) q none) j ∙ kp
       (suc (2 * k)) ∙ w .gave (omega arith)) (λ d. rw add-one (w .free1)) (λ d. inr (refl, omega arith, omega arith)) (λ d. absurd (nil-not d))))

@@ -31,7 +31,8 @@ use Rattle.base.proofs.Lists.{in-last, in-snoc}
 use Rattle.theorems.proofs.queue.Lists.{slice-none}
 use Rattle.theorems.proofs.queue.Content.{isAt, turn, content, content-suc, add-none, add-past, swap}
 use Rattle.theorems.proofs.queue.Memory.{Memory, rowIn, memoryAfter, withTop, lim, until, lim-past, logAfter}
-use Rattle.theorems.proofs.queue.Inv.{Control, QueueOk, Cause, Right, Calm, still, void, took, old, same, more, Turn, view, pending, AtTop, Seen, Reach, Why, hit, age}
+use Rattle.theorems.proofs.queue.Inv.{Control, QueueOk, Cause, Right, Calm, still, void, took, old, same, more, Turn, view, pending, AtTop}
+use Rattle.theorems.proofs.queue.Inv.{Seen, Reach, Why, hit, age}
 use Rattle.theorems.proofs.queue.Keeps.{cause-keeps, cause-now}
 use Rattle.theorems.proofs.queue.OwnerTurn.{Old, free-snoc, held-keep, event-on, new-entry}
 
@@ -86,7 +87,8 @@ bounds C nd m (B6 b x t g) h = above-bottom C m (B6 b x t g) refl (omega arith) 
 bounds C nd m (B7 b x t g) h = above-bottom C m (B7 b x t g) refl (omega arith) (omega arith) (λ e. omega arith)
 
 -- the owner under a taking of the top
-pub under : (C nd : ℕ) (m : Memory) (v : ℕ) (s : Stage) → m .word .top ≤ v → v ≤ lim (m .word .bottom) s → Control C nd m s → Control C nd (withTop m v) s
+pub under : (C nd : ℕ) (m : Memory) (v : ℕ) (s : Stage) → m .word .top ≤ v → v ≤ lim (m .word .bottom) s → Control C nd m s
+    → Control C nd (withTop m v) s
 under C nd m v Idle i j h = omega arith
 under C nd m v (P1 n) i j h = omega arith
 under C nd m v (P2 n b) i j h = omega arith
@@ -134,7 +136,8 @@ pub record TurnT (C n p q f : ℕ) (call : Call) (nd′ j : ℕ) (l : List Entry
   pub self : AtTop C (n + 1) p q f j l′ m′ s k (view q l′ m′ s k) z′
 
 -- process p at the step n, in a top pop begun at f; s is the stage of the queue's owner, k its B2, and nd′ its node
-module _ (W C n p : ℕ) (call : Call) (place stop f back seen : ℕ) (owner : Process) (take : isTake call ≡ true) (nd′ : ℕ) (l : List Entry) (m : Memory) (s : Stage)
+module _ (W C n p : ℕ) (call : Call) (place stop f back seen : ℕ) (owner : Process) (take : isTake call ≡ true) (nd′ : ℕ) (l : List Entry)
+    (m : Memory) (s : Stage)
     (k : ℕ)
     (credit : takeMoment n owner (m .word .top) ≡ cond (popsSlot s (m .word .top)) (2 * k) (2 * n)) (o : Old n l) (f-le : f ≤ n)
     (h : QueueOk C n nd′ l m s k (view (queueOf p call) l m s k)) where
@@ -155,7 +158,9 @@ module _ (W C n p : ℕ) (call : Call) (place stop f back seen : ℕ) (owner : P
           own = record {
             ctl = h .ctl;
             now-on = λ x g. h .now-on x (omega arith);
-            held = λ e. held-keep n l m s k (view q l m s k) l m s (view q l m s k) (λ x g. refl) refl refl (λ g. g) (λ g. g) (λ d g. g) (λ d g. g) (h .held e);
+            held =
+                λ e. held-keep n l m s k (view q l m s k) l m s (view q l m s k) (λ x g. refl) refl refl (λ g. g) (λ g. g) (λ d g. g) (λ d g. g)
+                (h .held e);
           };
           rely = record { calm = calm-refl m s; change = still refl refl; edge = λ e d g y. old g y refl (h .held g .late) refl; kept = λ x g. refl };
           grow = same;
@@ -178,7 +183,8 @@ module _ (W C n p : ℕ) (call : Call) (place stop f back seen : ℕ) (owner : P
           own = record {
             ctl = h .ctl;
             now-on = λ x g. kp x ∙ h .now-on x (omega arith);
-            held = λ d. held-keep n l m s k (view q l m s k) (l ++ (e ∷ [])) m s (view q (l ++ (e ∷ [])) m s k) (λ x g. kp x) refl refl (λ g. g) (λ g. g)
+            held =
+                λ d. held-keep n l m s k (view q l m s k) (l ++ (e ∷ [])) m s (view q (l ++ (e ∷ [])) m s k) (λ x g. kp x) refl refl (λ g. g) (λ g. g)
                 (λ d g. free-snoc l e (2 * k) g (λ u. never (sym silent ∙ u)))
                 (λ d g. free-snoc l e (suc (2 * k)) g (λ u. never (sym silent ∙ u))) (h .held d);
           };
@@ -194,7 +200,8 @@ module _ (W C n p : ℕ) (call : Call) (place stop f back seen : ℕ) (owner : P
   -- why T2 may return NIL, and T4
   why-T2 : (j t : ℕ) → f < n → m .word .bottom ≤ t → Why n p q f j t l m (view q l m s k) → Cause l (view q l m s k) p q f (2 * n)
   why-T2 j t i e (hit c) = c
-  why-T2 j t i e (age c d) = cause-now l (view q l m s k) p q f n i (h .now-on (2 * n) (omega arith) ∙ slice-none (m .word .top) (until (m .word .bottom) s)
+  why-T2 j t i e (age c d) =
+      cause-now l (view q l m s k) p q f n i (h .now-on (2 * n) (omega arith) ∙ slice-none (m .word .top) (until (m .word .bottom) s)
       (m .slots) (bd .none-left (omega arith)))
 
   why-T4 : (j t : ℕ) → (j ≡ m .resets → m .word .top ≡ t → ⊥) → Why n p q f j t l m (view q l m s k) → Cause l (view q l m s k) p q f (2 * n)
@@ -205,7 +212,8 @@ module _ (W C n p : ℕ) (call : Call) (place stop f back seen : ℕ) (owner : P
   won c x z = entry p n (at z) TopNode x (2 * c)
 
   -- the last node, of an owner past B2: the moment is that B2's
-  last-node : (j t x : ℕ) (z : Stage) → m .word .top ≡ t → pastB2 s ≡ true → lim (m .word .bottom) s ≡ t + 1 → j ≡ m .resets → Reach C f j t m s k (view q l m s k)
+  last-node : (j t x : ℕ) (z : Stage) → m .word .top ≡ t → pastB2 s ≡ true → lim (m .word .bottom) s ≡ t + 1 → j ≡ m .resets
+      → Reach C f j t m s k (view q l m s k)
       → getD (m .slots) t 0 ≡ x
       → TurnT C n p q f call nd′ j l m s k (l ++ (won k x z ∷ [])) (withTop m (t + 1)) Idle
   last-node j t x z e ps li je r g =
@@ -217,7 +225,8 @@ module _ (W C n p : ℕ) (call : Call) (place stop f back seen : ℕ) (owner : P
       let pd : pending m s k ≡ some k = rw (ps, lt-ltb (m .word .top) (lim (m .word .bottom) s) (omega arith)) refl in
       let pd′ : pending (withTop m (t + 1)) s k ≡ none = rw (ps, le-ltb (t + 1) (lim (m .word .bottom) s) (omega arith)) refl in
       let at-k : content l q (some k) (2 * k) ≡ x ∷ [] = ap (λ a. content l q a (2 * k)) (sym pd) ∙ v .1 ∙ ap (λ (a : ℕ). a ∷ []) g in
-      let sw : (i : ℕ) → content (l ++ (y ∷ [])) q none i ≡ content l q (some k) i = swap l y q k refl refl refl (w .free (omega arith)) (rw at-k refl) in
+      let sw : (i : ℕ) → content (l ++ (y ∷ [])) q none i ≡ content l q (some k) i =
+      swap l y q k refl refl refl (w .free (omega arith)) (rw at-k refl) in
       let kp : (i : ℕ) → view q (l ++ (y ∷ [])) (withTop m (t + 1)) s k i ≡ view q l m s k i = λ i. rw (pd, pd′) (sw i) in
       let em : slice (m .word .top) (until (m .word .bottom) s) (m .slots) ≡ [] = slice-none (m .word .top) (until (m .word .bottom) s) (m .slots)
       (omega (arith, b .lim-until ps)) in
@@ -225,7 +234,9 @@ module _ (W C n p : ℕ) (call : Call) (place stop f back seen : ℕ) (owner : P
         turn = record {
           own = record {
             ctl = under C nd′ m (t + 1) s (omega arith) (omega arith) ct;
-            now-on = λ i d. kp i ∙ h .now-on i (omega arith) ∙ em ∙ sym (slice-none (t + 1) (until (m .word .bottom) s) (m .slots) (omega (arith, b .lim-until ps)));
+            now-on =
+                λ i d. kp i ∙ h .now-on i (omega arith) ∙ em
+                ∙ sym (slice-none (t + 1) (until (m .word .bottom) s) (m .slots) (omega (arith, b .lim-until ps)));
             held = λ d. record {
               late = omega (arith, w .late);
               mine = λ i. absurd (no-lt (t + 1) _ i (omega arith));
@@ -265,8 +276,12 @@ module _ (W C n p : ℕ) (call : Call) (place stop f back seen : ℕ) (owner : P
         turn = record {
           own = record {
             ctl = under C nd′ m (t + 1) s (omega arith) (omega arith) ct;
-            now-on = λ i d. rw pd (event-on n q l y (pending m s k) o (off ps ep) refl refl refl i d ∙ ap dropFirst (h .now-on (2 * n) (omega arith) ∙ sl));
-            held = λ d. held-keep n l m s k (view q l m s k) (l ++ (y ∷ [])) (withTop m (t + 1)) s (view q (l ++ (y ∷ [])) (withTop m (t + 1)) s k) kp refl refl
+            now-on =
+                λ i d. rw pd
+                (event-on n q l y (pending m s k) o (off ps ep) refl refl refl i d ∙ ap dropFirst (h .now-on (2 * n) (omega arith) ∙ sl));
+            held =
+                λ d. held-keep n l m s k (view q l m s k) (l ++ (y ∷ [])) (withTop m (t + 1)) s
+                (view q (l ++ (y ∷ [])) (withTop m (t + 1)) s k) kp refl refl
                 (λ a. omega arith)
                 (λ a. absurd (no-lt (t + 1) (lim (m .word .bottom) s) (omega (arith, b .lim-until d)) a))
                 (λ a c. free-snoc l y (2 * k) c (λ u v. omega arith)) (λ a c. free-snoc l y (suc (2 * k)) c (λ u v. omega arith)) (h .held d);
@@ -278,7 +293,8 @@ module _ (W C n p : ℕ) (call : Call) (place stop f back seen : ℕ) (owner : P
             kept = kp;
           };
           grow = more y (new-entry (at z) TopNode x (2 * n) f-le
-              (λ d. omega arith) (λ d. omega arith) (slice (t + 1) (until (m .word .bottom) s) (m .slots), kp (2 * n) (omega arith) ∙ h .now-on (2 * n) (omega arith) ∙ sl)
+              (λ d. omega arith) (λ d. omega arith)
+              (slice (t + 1) (until (m .word .bottom) s) (m .slots), kp (2 * n) (omega arith) ∙ h .now-on (2 * n) (omega arith) ∙ sl)
               (λ d. o (2 * n) (omega arith)) (λ d. inl (omega arith)) (λ d. absurd (node-not d)));
         };
         self = tt;
@@ -289,7 +305,8 @@ module _ (W C n p : ℕ) (call : Call) (place stop f back seen : ℕ) (owner : P
       until-le false d = omega (arith, bd .until-lim d)
 
       off : (ps : Bool) → pastB2 s ≡ ps → (i : ℕ) → 2 * n ≤ i → isAt (pending m s k) i ≡ false
-      off true d i a = rw (d, lt-ltb (m .word .top) (lim (m .word .bottom) s) (omega (arith, bd .lim-until d))) (ne-eqb i (2 * k) (omega (arith, h .held d .late)))
+      off true d i a =
+          rw (d, lt-ltb (m .word .top) (lim (m .word .bottom) s) (omega (arith, bd .lim-until d))) (ne-eqb i (2 * k) (omega (arith, h .held d .late)))
       off false d i a = rw d refl
 
       pends : (ps : Bool) → pastB2 s ≡ ps → pending (withTop m (t + 1)) s k ≡ pending m s k
@@ -324,7 +341,8 @@ module _ (W C n p : ℕ) (call : Call) (place stop f back seen : ℕ) (owner : P
 
   abbrev P : Stage → Stepped → Type 0
   P z u = goneRound (at z) (m .resets) (u .next) ≡ 0
-      → TurnT C n p q f call nd′ (cond (atT1 z) (m .resets) seen) l m s k (logAfter l (ended p n (at z) owner (m .word .top) (u .next))) (memoryAfter m u) (stageAfter (u .next))
+      → TurnT C n p q f call nd′ (cond (atT1 z) (m .resets) seen) l m s k (logAfter l (ended p n (at z) owner (m .word .top) (u .next)))
+      (memoryAfter m u) (stageAfter (u .next))
 
   pub thief-turn : (z : Stage) → isTop z ≡ true → AtTop C n p q f seen l m s k (view q l m s k) z → P z (rowIn W C m z)
   thief-turn Idle i v = never i

@@ -40,11 +40,18 @@ use Rattle.theorems.proofs.queues.Assemble.{at-record, assemble}
 
 -- a call that begins: the queue sees its first stage as it saw an idle owner
 restart : (C n p q f : ℕ) (call : Call) (nd : ℕ) (l : List Entry) (m : Memory) (z : Stage) (k : ℕ) (l′ : List Entry) (m′ : Memory) (s′ : Stage) (k′ : ℕ)
-    → pastB2 z ≡ false → lim (m .word .bottom) z ≡ m .word .bottom → Turn C n p q f call nd l m z k l′ m′ s′ k′ → Turn C n p q f call nd l m Idle k l′ m′ s′ k′
+    → pastB2 z ≡ false → lim (m .word .bottom) z ≡ m .word .bottom → Turn C n p q f call nd l m z k l′ m′ s′ k′
+    → Turn C n p q f call nd l m Idle k l′ m′ s′ k′
 restart C n p q f call nd l m z k l′ m′ s′ k′ ps li t = record {
   own = t .own;
   rely = record {
-    calm = record { mono = t .rely .calm .mono; up = t .rely .calm .up; tag = t .rely .calm .tag; reach = λ e u a b. t .rely .calm .reach e u a (omega arith) };
+    calm =
+        record {
+          mono = t .rely .calm .mono;
+          up = t .rely .calm .up;
+          tag = t .rely .calm .tag;
+          reach = λ e u a b. t .rely .calm .reach e u a (omega arith);
+        };
     change = change (t .rely .change);
     edge = λ a b c d. edge (t .rely .edge a b c d);
     kept = λ x i. t .rely .kept x i ∙ kk x;
@@ -72,7 +79,16 @@ restart C n p q f call nd l m z k l′ m′ s′ k′ ps li t = record {
     grow : (l″ : List Entry) → Grow n p q f call l z k (view q l′ m′ s′ k′) l″ → Grow n p q f call l Idle k (view q l′ m′ s′ k′) l″
     grow l″ same = same
     grow l″ (more e w) =
-        more e (record { by-process = w .by-process; on-queue = w .on-queue; from-start = w .from-start; to-end = w .to-end; fine = w .fine; fresh = w .fresh; clear = λ b. clear e (w .clear b); node = w .node })
+        more e (record {
+          by-process = w .by-process;
+          on-queue = w .on-queue;
+          from-start = w .from-start;
+          to-end = w .to-end;
+          fine = w .fine;
+          fresh = w .fresh;
+          clear = λ b. clear e (w .clear b);
+          node = w .node;
+        })
 
 -- an idle owner has no node
 renode : (C n p q f : ℕ) (call : Call) (nd : ℕ) (l : List Entry) (m : Memory) (z : Stage) (k : ℕ) (l′ : List Entry) (m′ : Memory) (s′ : Stage) (k′ : ℕ)
@@ -85,7 +101,12 @@ renode C n p q f call nd l m z k l′ m′ s′ k′ e t = by (isOwn s′) refl
         let d : Idle ≡ s′ = sym (ap (λ (b : Bool). cond b s′ Idle) i) ∙ e in
         let c : Control C nd m′ Idle = subst (Control C nd m′) (sym d) (t .own .ctl) in
         record {
-          own = record { ctl = subst (Control C 0 m′) d (record { fits = c .fits; len = c .len; top-le = c .top-le; at = tt }); now-on = t .own .now-on; held = t .own .held };
+          own =
+              record {
+                ctl = subst (Control C 0 m′) d (record { fits = c .fits; len = c .len; top-le = c .top-le; at = tt });
+                now-on = t .own .now-on;
+                held = t .own .held;
+              };
           rely = t .rely;
           grow = t .grow;
         }
@@ -108,7 +129,8 @@ as-own (B5 b x t g) e = refl
 as-own (B6 b x t g) e = refl
 as-own (B7 b x t g) e = refl
 
-at-owner : (C n p q f j : ℕ) (l : List Entry) (m : Memory) (s : Stage) (k : ℕ) (K : ℕ → List ℕ) (z : Stage) → isTop z ≡ false → AtTop C n p q f j l m s k K z
+at-owner : (C n p q f j : ℕ) (l : List Entry) (m : Memory) (s : Stage) (k : ℕ) (K : ℕ → List ℕ) (z : Stage) → isTop z ≡ false
+    → AtTop C n p q f j l m s k K z
 at-owner C n p q f j l m s k K Idle e = tt
 at-owner C n p q f j l m s k K (P1 x) e = tt
 at-owner C n p q f j l m s k K (P2 x b) e = tt
@@ -162,21 +184,32 @@ module _ (f : Sizes) (w : Fit f) (s : State) (v : Sound f s) (h : Inv f s) (p : 
   was-timed : (r : Process) → Was f s p r → Timed n p (s .log) r
   was-timed r goes = h .timed p (k .below)
   was-timed r (begins call _) =
-      record { begun = omega arith; back-after = λ e. never (sym (first-quiet call) ∙ e); since = λ _. all-map _ _ (λ e g d. g .ended) (s .log) (h .fine) }
+      record {
+        begun = omega arith;
+        back-after = λ e. never (sym (first-quiet call) ∙ e);
+        since = λ _. all-map _ _ (λ e g d. g .ended) (s .log) (h .fine);
+      }
 
   timed : Timed n p (s .log) r
   timed = was-timed r (k .was)
 
   timed-after : Timed (n + 1) p l′ r′
-  timed-after = record { begun = omega (arith, timed .begun); back-after = λ e. later e (back-of (r .stage) z′ n (r .b2) inside e); since = λ e. kept (o .next) e }
+  timed-after =
+      record {
+        begun = omega (arith, timed .begun);
+        back-after = λ e. later e (back-of (r .stage) z′ n (r .b2) inside e);
+        since = λ e. kept (o .next) e;
+      }
     where
       later : pastB2 (stageAfter (rowAt f s p r .next)) ≡ true
-          → (cond (atB2 (r .stage)) (s .bench .steps) (r .b2) ≡ s .bench .steps) ⊎ ((pastB2 (r .stage) ≡ true) × (cond (atB2 (r .stage)) (s .bench .steps) (r .b2) ≡ r .b2))
+          → (cond (atB2 (r .stage)) (s .bench .steps) (r .b2) ≡ s .bench .steps) ⊎
+          ((pastB2 (r .stage) ≡ true) × (cond (atB2 (r .stage)) (s .bench .steps) (r .b2) ≡ r .b2))
           → r .start ≤ cond (atB2 (r .stage)) (s .bench .steps) (r .b2)
       later e (inl d) = omega (arith, d, timed .begun)
       later e (inr d) = omega (arith, d .1, timed .back-after (d .0))
 
-      kept : (x : Next) → isIdle (stageAfter x) ≡ false → All (λ (e : Entry). e .process ≡ p → e .end < r .start) (logAfter (s .log) (ending p r (s .bench) x))
+      kept : (x : Next) → isIdle (stageAfter x) ≡ false
+          → All (λ (e : Entry). e .process ≡ p → e .end < r .start) (logAfter (s .log) (ending p r (s .bench) x))
       kept (next.Going z) e = timed .since (k .busy)
       kept next.Done e = ever e
       kept (next.Node x) e = ever e
@@ -196,7 +229,8 @@ module _ (f : Sizes) (w : Fit f) (s : State) (v : Sound f s) (h : Inv f s) (p : 
   node-written owner t x true e = wrote TopNode x (takeMoment n owner t) tt
   node-written owner t x false e = wrote BottomNode x (2 * r .b2) (own-queue p (r .call) e)
 
-  nil-written : (b : Bool) → isTake (r .call) ≡ b → Written (processes f) (cond b (entry p n r TopNil 0 noMoment) (entry p n r BottomNil 0 (nilMoment n r)))
+  nil-written : (b : Bool) → isTake (r .call) ≡ b
+      → Written (processes f) (cond b (entry p n r TopNil 0 noMoment) (entry p n r BottomNil 0 (nilMoment n r)))
   nil-written true e = wrote TopNil 0 noMoment (refl, refl)
   nil-written false e = wrote BottomNil 0 (nilMoment n r) (own-queue p (r .call) e, refl)
 
@@ -210,7 +244,8 @@ module _ (f : Sizes) (w : Fit f) (s : State) (v : Sound f s) (h : Inv f s) (p : 
   written-after next.Full g = all-snoc _ (s .log) _ (h .written) (wrote Full (pushedNode (r .call)) noMoment (push-owns g, refl))
 
   written : All (Written (processes f)) l′
-  written = written-after (o .next) (gives (f .width) (f .size) (queueAt (s .bench) q .word) (loaded (slotsAt s q) (loadedSlot (r .stage))) (r .stage))
+  written =
+      written-after (o .next) (gives (f .width) (f .size) (queueAt (s .bench) q .word) (loaded (slotsAt s q) (loadedSlot (r .stage))) (r .stage))
 
   -- THE OWNER
   abbrev pub mine : Process → Seat
@@ -235,14 +270,26 @@ module _ (f : Sizes) (w : Fit f) (s : State) (v : Sound f s) (h : Inv f s) (p : 
       where
         idle-ok : QueueOk (f .size) (s .bench .steps) 0 (s .log) (memoryAt s p) Idle (processAt (s .bench) p .b2)
             (view p (s .log) (memoryAt s p) Idle (processAt (s .bench) p .b2))
-        idle-ok = subst (λ (x : Stage). QueueOk (f .size) (s .bench .steps) (cond (isOwn x) (pushedNode (processAt (s .bench) p .call)) 0) (s .log) (memoryAt s p)
+        idle-ok =
+            subst
+            (λ (x : Stage). QueueOk (f .size) (s .bench .steps) (cond (isOwn x) (pushedNode (processAt (s .bench) p .call)) 0) (s .log) (memoryAt s p)
             (asOwner x) (processAt (s .bench) p .b2)
             (view p (s .log) (memoryAt s p) (asOwner x) (processAt (s .bench) p .b2))) z (h .queues p (k .below))
 
         first : (call : Call) → isOwn (firstStage call) ≡ true
             → SeatOk (f .size) (s .bench .steps) p (s .log) (memoryAt s p) (mine (begun (s .bench .steps) call (processAt (s .bench) p)))
-        first (Push node) i = let c = idle-ok .ctl in record { ctl = record { fits = c .fits; len = c .len; top-le = c .top-le; at = refl }; now-on = idle-ok .now-on; held = never }
-        first Pop i = let c = idle-ok .ctl in record { ctl = record { fits = c .fits; len = c .len; top-le = c .top-le; at = tt }; now-on = idle-ok .now-on; held = never }
+        first (Push node) i =
+            let c = idle-ok .ctl in record {
+              ctl = record { fits = c .fits; len = c .len; top-le = c .top-le; at = refl };
+              now-on = idle-ok .now-on;
+              held = never;
+            }
+        first Pop i =
+            let c = idle-ok .ctl in record {
+              ctl = record { fits = c .fits; len = c .len; top-le = c .top-le; at = tt };
+              now-on = idle-ok .now-on;
+              held = never;
+            }
         first (Take q) i = never i
 
     -- before the step the queue saw its owner so, or idle where the call begins
@@ -260,7 +307,8 @@ module _ (f : Sizes) (w : Fit f) (s : State) (v : Sound f s) (h : Inv f s) (p : 
         (restart (f .size) n p q a call nd (s .log) (memoryAt s q) (firstStage c) (processAt (s .bench) p .b2) l′ m′ s′ k′ (first-quiet c)
         (first-lim c (memoryAt s q .word .bottom)) t))
 
-    back-was : (r : Process) → Was f s p r → isOwn (r .stage) ≡ true → (q : ℕ) → q ≡ p → (x : ℕ) → (x ≡ n) ⊎ ((pastB2 (r .stage) ≡ true) × (x ≡ r .b2))
+    back-was : (r : Process) → Was f s p r → isOwn (r .stage) ≡ true → (q : ℕ) → q ≡ p → (x : ℕ)
+        → (x ≡ n) ⊎ ((pastB2 (r .stage) ≡ true) × (x ≡ r .b2))
         → (x ≡ n) ⊎ ((pastB2 (seat s q .stage) ≡ true) × (x ≡ seat s q .b2))
     back-was r a i q e x (inl d) = inl d
     back-was r goes i q e x (inr d) =
@@ -280,7 +328,8 @@ module _ (f : Sizes) (w : Fit f) (s : State) (v : Sound f s) (h : Inv f s) (p : 
         (s .log) m (old-log f s h) (timed .begun)
         (r .stage) i (k .placed .suits .push) (timed .back-after) ok in
         let t₂ = turn-was r (k .was) i q here (r .start) (r .call) nd l′ (memoryAfter m o) z′ (r′ .b2) t₁ in
-        let t₃ = renode (f .size) n p q (r .start) (r .call) nd (s .log) m (seat s q .stage) (seat s q .b2) l′ (memoryAfter m o) z′ (r′ .b2) seen t₂ in
+        let t₃ =
+        renode (f .size) n p q (r .start) (r .call) nd (s .log) m (seat s q .stage) (seat s q .b2) l′ (memoryAfter m o) z′ (r′ .b2) seen t₂ in
         let t₄ = subst (λ (x : Stage). Turn (f .size) n p q (r .start) (r .call) (cond (isOwn z′) nd 0) (s .log) m (seat s q .stage) (seat s q .b2) l′
         (memoryAfter m o) x (r′ .b2)) (sym seen) t₃ in
         assemble f w s v h p r k (seatOf r′)
@@ -305,7 +354,9 @@ module _ (f : Sizes) (w : Fit f) (s : State) (v : Sound f s) (h : Inv f s) (p : 
     thief-ok r goes = h .thieves p (k .below)
     thief-ok r (begins call _) = first call
       where
-        first : (call : Call) → ThiefOk (f .size) (s .bench .steps) p (s .log) (memoryAt s (queueOf p call)) (seat s (queueOf p call)) (begun (s .bench .steps) call (processAt (s .bench) p))
+        first : (call : Call)
+            → ThiefOk (f .size) (s .bench .steps) p (s .log) (memoryAt s (queueOf p call)) (seat s (queueOf p call))
+            (begun (s .bench .steps) call (processAt (s .bench) p))
         first (Push node) = tt
         first Pop = tt
         first (Take q) = tt
@@ -317,7 +368,8 @@ module _ (f : Sizes) (w : Fit f) (s : State) (v : Sound f s) (h : Inv f s) (p : 
 
     seat-was : (r : Process) → Was f s p r → isOwn (r .stage) ≡ false → seat s p ≡ record { stage = Idle; b2 = r .b2; node = 0 }
     seat-was r goes e = hidden (r .stage) (r .b2) (pushedNode (r .call)) e
-    seat-was r (begins call z) e = hidden (processAt (s .bench) p .stage) (processAt (s .bench) p .b2) (pushedNode (processAt (s .bench) p .call)) (ap isOwn z)
+    seat-was r (begins call z) e =
+        hidden (processAt (s .bench) p .stage) (processAt (s .bench) p .b2) (pushedNode (processAt (s .bench) p .call)) (ap isOwn z)
 
     not-own : isOwn z′ ≡ false
     not-own = not-so (isOwn z′) (λ e. ever (sym (inside .own e) ∙ i))
@@ -326,7 +378,8 @@ module _ (f : Sizes) (w : Fit f) (s : State) (v : Sound f s) (h : Inv f s) (p : 
     back-same = ap (λ (b : Bool). cond b n (r .b2)) (not-B2 (r .stage) top)
       where
         not-B2 : (z : Stage) → isTop z ≡ true → atB2 z ≡ false
-        not-B2 z e = ne-eqb (rowNumber z) 9 (λ d. let x = leb-true (rowNumber z) 7 (and-1 (leb 4 (rowNumber z)) (leb (rowNumber z) 7) e) in omega arith)
+        not-B2 z e =
+            ne-eqb (rowNumber z) 9 (λ d. let x = leb-true (rowNumber z) 7 (and-1 (leb 4 (rowNumber z)) (leb (rowNumber z) 7) e) in omega arith)
 
     pub seats : (j : ℕ) → seat (acted p r s o) j ≡ seat s j
     seats j = at-record f w s v h p r k (λ (a : Process). seatOf a ≡ seat s j) j

@@ -23,7 +23,8 @@ use Rattle.theorems.proofs.queue.Inv.{still, old, Rely, Grow, same, mor
 use Rattle.theorems.proofs.queue.Keeps.{thief-keeps}
 use Rattle.theorems.proofs.queue.OwnerTurn.{held-keep}
 use Rattle.theorems.proofs.queue.ThiefTurn.{calm-refl}
-use Rattle.theorems.proofs.queues.Whole.{Seat, seat, nodesBy, SeatOk, ThiefOk, Timed, Order, Written, Inv, fine-keeps, in-grow, other-same, free-grow}
+use Rattle.theorems.proofs.queues.Whole.{Seat, seat, nodesBy, SeatOk, ThiefOk, Timed, Order, Written, Inv, fine-keeps, in-grow, other-same}
+use Rattle.theorems.proofs.queues.Whole.{free-grow}
 
 module _ (f : Sizes) (w : Fit f) (s : State) (v : Sound f s) (h : Inv f s) (p : ℕ) (r : Process) (k : Steps f s p r) where
   abbrev q : ℕ
@@ -46,7 +47,8 @@ module _ (f : Sizes) (w : Fit f) (s : State) (v : Sound f s) (h : Inv f s) (p : 
 
   pub at-memory : (P : Memory → Type 0) (j : ℕ) → (j ≡ q → P m′) → ((j ≡ q → ⊥) → P (memoryAt s j)) → P (memoryAt t j)
   at-memory P j a b =
-      if-set (λ (x : Queue). P (record { word = x .word; resets = x .resets; slots = getD (set (s .slots) q (stored (slotsAt s q) (o .store))) j [] }))
+      if-set
+      (λ (x : Queue). P (record { word = x .word; resets = x .resets; slots = getD (set (s .slots) q (stored (slotsAt s q) (o .store))) j [] }))
       (s .bench .queues) q j (queueAfter (queueAt (s .bench) q) o) fresh
       (omega (arith, k .placed .queue, v .queues, w .processes))
       (λ e. if-set (λ (x : List ℕ). P (record { word = m′ .word; resets = m′ .resets; slots = x })) (s .slots) q j (stored (slotsAt s q) (o .store)) []
@@ -91,7 +93,8 @@ module _ (f : Sizes) (w : Fit f) (s : State) (v : Sound f s) (h : Inv f s) (p : 
           ctl = o .ctl;
           now-on = λ x i. kp x ∙ o .now-on x (omega arith);
           held = λ d.
-              held-keep (s .bench .steps) (s .log) (memoryAt s j) (seat s j .stage) (seat s j .b2) (nodesBy j (s .log) (memoryAt s j) (seat s j)) l′ (memoryAt s j)
+              held-keep (s .bench .steps) (s .log) (memoryAt s j) (seat s j .stage) (seat s j .b2) (nodesBy j (s .log) (memoryAt s j) (seat s j)) l′
+              (memoryAt s j)
               (seat s j .stage) (nodesBy j l′ (memoryAt s j) (seat s j))
               (λ x i. kp x) refl refl (λ a. a) (λ a. a)
               (λ lt′ a. free-grow (turn .grow) (seat s j .b2) (2 * seat s j .b2) (omega arith) (omega arith) lt′
@@ -102,7 +105,8 @@ module _ (f : Sizes) (w : Fit f) (s : State) (v : Sound f s) (h : Inv f s) (p : 
         }
 
     rely-else : (j : ℕ) → j < processes f → (j ≡ q → ⊥)
-        → Rely (s .bench .steps) p j (s .log) (memoryAt s j) (seat s j .stage) (seat s j .b2) (nodesBy j (s .log) (memoryAt s j) (seat s j)) l′ (memoryAt s j) (seat s j .stage) (seat s j .b2) (nodesBy j l′ (memoryAt s j) (seat s j))
+        → Rely (s .bench .steps) p j (s .log) (memoryAt s j) (seat s j .stage) (seat s j .b2) (nodesBy j (s .log) (memoryAt s j) (seat s j)) l′
+        (memoryAt s j) (seat s j .stage) (seat s j .b2) (nodesBy j l′ (memoryAt s j) (seat s j))
     rely-else j lt e =
         record {
           calm = calm-refl (memoryAt s j) (seat s j .stage);
@@ -111,7 +115,9 @@ module _ (f : Sizes) (w : Fit f) (s : State) (v : Sound f s) (h : Inv f s) (p : 
           kept = λ x i. kept-else j e x;
         }
 
-    thief-else : (j : ℕ) → j < processes f → (j ≡ p → ⊥) → ThiefOk (f .size) (s .bench .steps + 1) j l′ (memoryAt t (queueOf j (processAt (s .bench) j .call))) (seat t (queueOf j (processAt (s .bench) j .call))) (processAt (s .bench) j)
+    thief-else : (j : ℕ) → j < processes f → (j ≡ p → ⊥)
+        → ThiefOk (f .size) (s .bench .steps + 1) j l′ (memoryAt t (queueOf j (processAt (s .bench) j .call)))
+        (seat t (queueOf j (processAt (s .bench) j .call))) (processAt (s .bench) j)
     thief-else j lt e =
         let on-lt = v .each j lt .queue in
         at-queue (λ m σ. ThiefOk (f .size) (s .bench .steps + 1) j l′ m σ (processAt (s .bench) j)) (queueOf j (processAt (s .bench) j .call))
@@ -128,7 +134,8 @@ module _ (f : Sizes) (w : Fit f) (s : State) (v : Sound f s) (h : Inv f s) (p : 
         let o = h .timed j lt in
         record { begun = omega (arith, o .begun); back-after = o .back-after; since = λ b. go l′ (turn .grow) (o .since b) }
       where
-        go : (l″ : List Entry) → Grow (s .bench .steps) p q (r .start) (r .call) (s .log) (seat s q .stage) (seat s q .b2) (view q l′ m′ (σ′ .stage) (σ′ .b2)) l″
+        go : (l″ : List Entry)
+            → Grow (s .bench .steps) p q (r .start) (r .call) (s .log) (seat s q .stage) (seat s q .b2) (view q l′ m′ (σ′ .stage) (σ′ .b2)) l″
             → All (λ (d : Entry). d .process ≡ j → d .end < processAt (s .bench) j .start) (s .log)
             → All (λ (d : Entry). d .process ≡ j → d .end < processAt (s .bench) j .start) l″
         go l″ same a = a
@@ -148,7 +155,9 @@ module _ (f : Sizes) (w : Fit f) (s : State) (v : Sound f s) (h : Inv f s) (p : 
     old-fine = all-map _ _ (λ e g. fine-keeps (s .bench .steps) (s .log) _ l′ _ (in-grow (turn .grow)) (kept-all (e .queue)) e g) (s .log) (h .fine)
 
     -- the new entry against an old one
-    new-order : (e : Entry) → NewOk (s .bench .steps) p q (r .start) (r .call) (s .log) (seat s q .stage) (seat s q .b2) (s .log ++ (e ∷ [])) (view q l′ m′ (σ′ .stage) (σ′ .b2)) e
+    new-order : (e : Entry)
+        → NewOk (s .bench .steps) p q (r .start) (r .call) (s .log) (seat s q .stage) (seat s q .b2) (s .log ++ (e ∷ []))
+        (view q l′ m′ (σ′ .stage) (σ′ .b2)) e
         → All (λ (a : Entry). Order a e) (s .log)
     new-order e x = all-in (λ (a : Entry). Order a e) (s .log) go
       where
@@ -165,7 +174,8 @@ module _ (f : Sizes) (w : Fit f) (s : State) (v : Sound f s) (h : Inv f s) (p : 
     abbrev Log : List Entry → Type 0
     Log k = (All FineT k) × (Pairs Order k)
 
-    new-log : (l″ : List Entry) → l″ ≡ l′ → Grow (s .bench .steps) p q (r .start) (r .call) (s .log) (seat s q .stage) (seat s q .b2) (view q l′ m′ (σ′ .stage) (σ′ .b2)) l″ → Log l″
+    new-log : (l″ : List Entry) → l″ ≡ l′
+        → Grow (s .bench .steps) p q (r .start) (r .call) (s .log) (seat s q .stage) (seat s q .b2) (view q l′ m′ (σ′ .stage) (σ′ .b2)) l″ → Log l″
     new-log l″ el same = (old-fine, h .order)
     new-log l″ el (more e x) = (
       all-snoc FineT (s .log) e old-fine
@@ -198,7 +208,8 @@ module _ (f : Sizes) (w : Fit f) (s : State) (v : Sound f s) (h : Inv f s) (p : 
         let here : Inv f t = record {
           queues = λ j i. at-queue (λ m σ. SeatOk (f .size) (s .bench .steps + 1) j l′ m σ) j
               (λ e. subst (λ (i : ℕ). SeatOk (f .size) (s .bench .steps + 1) i l′ m′ σ′) (sym e) (turn .own)) (λ e. queue-else j i e);
-          timed = λ j i. at-record (λ (a : Process). Timed (s .bench .steps + 1) j l′ a) j (λ e. subst (λ (i : ℕ). Timed (s .bench .steps + 1) i l′ r′)
+          timed =
+              λ j i. at-record (λ (a : Process). Timed (s .bench .steps + 1) j l′ a) j (λ e. subst (λ (i : ℕ). Timed (s .bench .steps + 1) i l′ r′)
               (sym e) timed) (λ e. timed-else j i e);
           thieves = λ j i. at-record (λ (a : Process). ThiefOk (f .size) (s .bench .steps + 1) j l′ (memoryAt t (queueOf j (a .call)))
               (seat t (queueOf j (a .call))) a) j

@@ -35,12 +35,15 @@ idle-ok f s v h = record {
   queues = λ j lt. let o = h .queues j lt in record {
     ctl = o .ctl;
     now-on = λ x i. o .now-on x (omega arith);
-    held = λ d. held-keep (s .bench .steps) (s .log) (memoryAt s j) (seat s j .stage) (seat s j .b2) (nodesBy j (s .log) (memoryAt s j) (seat s j)) (s .log)
+    held =
+        λ d. held-keep (s .bench .steps) (s .log) (memoryAt s j) (seat s j .stage) (seat s j .b2) (nodesBy j (s .log) (memoryAt s j) (seat s j))
+        (s .log)
         (memoryAt s j) (seat s j .stage) (nodesBy j (s .log) (memoryAt s j) (seat s j))
         (λ x i. refl) refl refl (λ a. a) (λ a. a) (λ a b. b) (λ a b. b) (o .held d);
   };
   timed = λ j lt. let o = h .timed j lt in record { begun = omega (arith, o .begun); back-after = o .back-after; since = o .since };
-  thieves = λ j lt. let r = processAt (s .bench) j in thief-keeps (f .size) (rely j (queueOf j (r .call)) (v .each j lt .queue)) (λ e i. i) j (r .start) (r .resetsAtT1)
+  thieves =
+      λ j lt. let r = processAt (s .bench) j in thief-keeps (f .size) (rely j (queueOf j (r .call)) (v .each j lt .queue)) (λ e i. i) j (r .start) (r .resetsAtT1)
       (λ e. omega arith) (r .stage) (h .thieves j lt);
   apart = h .apart;
   fine = all-map _ _ (λ e g. fine-keeps (s .bench .steps) (s .log) _ (s .log) _ (λ a b. b) (λ x i. refl) e g) (s .log) (h .fine);
@@ -49,7 +52,8 @@ idle-ok f s v h = record {
 }
   where
     -- nobody has stepped on the queue; suc j stands for a process that is not j
-    rely : (j q : ℕ) → q < processes f → Rely (s .bench .steps) (suc j) q (s .log) (memoryAt s q) (seat s q .stage) (seat s q .b2) (nodesBy q (s .log) (memoryAt s q) (seat s q))
+    rely : (j q : ℕ) → q < processes f
+        → Rely (s .bench .steps) (suc j) q (s .log) (memoryAt s q) (seat s q .stage) (seat s q .b2) (nodesBy q (s .log) (memoryAt s q) (seat s q))
         (s .log) (memoryAt s q) (seat s q .stage) (seat s q .b2) (nodesBy q (s .log) (memoryAt s q) (seat s q))
     rely j q lt = record {
       calm = calm-refl (memoryAt s q) (seat s q .stage);
@@ -72,9 +76,12 @@ QueueAs f s q l m x st = QueueOk (f .size) (s .bench .steps) (cond (isOwn st) (p
 fresh-ok : (f : Sizes) → Fit f → (s : State) → Fresh f s → Inv f s
 fresh-ok f w s z = record {
   queues = λ q lt. here q lt;
-  timed = λ p lt. record { begun = z .begun p; back-after = λ e. never (ap pastB2 (sym (z .idle p)) ∙ e); since = λ e. subst (All _) (sym (z .log)) tt };
-  thieves = λ p lt. subst (λ (x : Stage). AtTop (f .size) (s .bench .steps) p (queueOf p (processAt (s .bench) p .call)) (processAt (s .bench) p .start)
-      (processAt (s .bench) p .resetsAtT1) (s .log) (memoryAt s (queueOf p (processAt (s .bench) p .call))) (seat s (queueOf p (processAt (s .bench) p .call)) .stage)
+  timed =
+      λ p lt. record { begun = z .begun p; back-after = λ e. never (ap pastB2 (sym (z .idle p)) ∙ e); since = λ e. subst (All _) (sym (z .log)) tt };
+  thieves =
+      λ p lt. subst (λ (x : Stage). AtTop (f .size) (s .bench .steps) p (queueOf p (processAt (s .bench) p .call)) (processAt (s .bench) p .start)
+      (processAt (s .bench) p .resetsAtT1) (s .log) (memoryAt s (queueOf p (processAt (s .bench) p .call)))
+      (seat s (queueOf p (processAt (s .bench) p .call)) .stage)
       (seat s (queueOf p (processAt (s .bench) p .call)) .b2)
       (nodesBy (queueOf p (processAt (s .bench) p .call)) (s .log) (memoryAt s (queueOf p (processAt (s .bench) p .call)))
       (seat s (queueOf p (processAt (s .bench) p .call)))) x) (sym (z .idle p)) tt;

@@ -89,13 +89,15 @@ one-process f i a b la ha lb hb = by (decLt a b) (decLt b a)
 finished-le : (r : Process) → finished r ≤ r .next
 finished-le r = either-way (λ (n : ℕ). n ≤ r .next) (isIdle (r .stage)) (λ _. omega arith) (λ _. omega arith)
 
-pub node-other : (p n : ℕ) (r owner : Process) (t x : ℕ) (b : Bool) → Pushes (what (cond b (entry p n r TopNode x (takeMoment n owner t)) (entry p n r BottomNode x (2 * r .b2)))) → ⊥
+pub node-other : (p n : ℕ) (r owner : Process) (t x : ℕ) (b : Bool)
+    → Pushes (what (cond b (entry p n r TopNode x (takeMoment n owner t)) (entry p n r BottomNode x (2 * r .b2)))) → ⊥
 node-other p n r owner t x true (inl e) = let z : _≡_ {A = ℕ} 0 1 = cc in omega arith
 node-other p n r owner t x true (inr e) = let z : _≡_ {A = ℕ} 0 1 = cc in omega arith
 node-other p n r owner t x false (inl e) = let z : _≡_ {A = ℕ} 0 1 = cc in omega arith
 node-other p n r owner t x false (inr e) = let z : _≡_ {A = ℕ} 0 1 = cc in omega arith
 
-pub nil-other : (p n : ℕ) (r : Process) (b : Bool) → Pushes (what (cond b (entry p n r TopNil 0 noMoment) (entry p n r BottomNil 0 (nilMoment n r)))) → ⊥
+pub nil-other : (p n : ℕ) (r : Process) (b : Bool) → Pushes (what (cond b (entry p n r TopNil 0 noMoment) (entry p n r BottomNil 0 (nilMoment n r))))
+    → ⊥
 nil-other p n r true (inl e) = let z : _≡_ {A = ℕ} 0 1 = cc in omega arith
 nil-other p n r true (inr e) = let z : _≡_ {A = ℕ} 0 1 = cc in omega arith
 nil-other p n r false (inl e) = let z : _≡_ {A = ℕ} 0 1 = cc in omega arith
@@ -129,7 +131,8 @@ module _ (f : RunFile) (w : InRanges f) (s : State) (v : Sound (sizesOf f) s) (i
   abbrev r′ : Process
   r′ = processAfter n (queueAt (s .bench) (queueOf p (r .call)) .resets) r o
 
-  at-record : (P : Process → Type 0) (j : ℕ) → (j ≡ p → P r′) → ((j ≡ p → ⊥) → P (processAt (s .bench) j)) → P (processAt (acted p r s (rowAt (sizesOf f) s p r) .bench) j)
+  at-record : (P : Process → Type 0) (j : ℕ) → (j ≡ p → P r′) → ((j ≡ p → ⊥) → P (processAt (s .bench) j))
+      → P (processAt (acted p r s (rowAt (sizesOf f) s p r) .bench) j)
   at-record P j a b = if-set P (s .bench .processes) p j r′ nobody (omega (arith, k .below, v .records, w .processes)) a b
 
   grows : (j : ℕ) → finished (processAt (s .bench) j) ≤ finished (processAt (acted p r s (rowAt (sizesOf f) s p r) .bench) j)
@@ -141,7 +144,14 @@ module _ (f : RunFile) (w : InRanges f) (s : State) (v : Sound (sizesOf f) s) (i
   Orig e = Pushes (what e) → From f t e
 
   old : All Orig (s .log)
-  old = all-map _ _ (λ e g d. let a = g d in record { call = a .call; process = a .process; above = a .above; below = omega (arith, a .below, grows (e .process)); pushes = a .pushes }) (s .log) (i .origin)
+  old =
+      all-map _ _ (λ e g d. let a = g d in record {
+        call = a .call;
+        process = a .process;
+        above = a .above;
+        below = omega (arith, a .below, grows (e .process));
+        pushes = a .pushes;
+      }) (s .log) (i .origin)
 
   -- the push that ends
   module _ (e : Entry) (by : e .process ≡ p) (is : r .call ≡ Push (e .node)) (over : stageAfter o ≡ stageAfter next.Done) where
@@ -151,7 +161,8 @@ module _ (f : RunFile) (w : InRanges f) (s : State) (v : Sound (sizesOf f) s) (i
       process = subst (λ (j : ℕ). j < length (f .shares)) (sym by) (k .below);
       above = subst (λ (j : ℕ). low f j ≤ r .next - 1) (sym by) (omega (arith, here, c .from));
       below = at-record (λ (a : Process). r .next - 1 < finished a) (e .process)
-          (λ d. subst (λ (z : _). r .next - 1 < cond (isIdle z) (r .next) (r .next - 1)) (sym over) (omega (arith, c .begun (k .busy)))) (λ d. absurd (d by));
+          (λ d. subst (λ (z : _). r .next - 1 < cond (isIdle z) (r .next) (r .next - 1)) (sym over) (omega (arith, c .begun (k .busy))))
+          (λ d. absurd (d by));
       pushes = c .call (k .busy) ∙ is;
     }
 
@@ -163,7 +174,8 @@ module _ (f : RunFile) (w : InRanges f) (s : State) (v : Sound (sizesOf f) s) (i
         let lo = finished-le (processAt (s .bench) (a .process)) in
         let d₂ : a .process ≡ p = one-process f (r .next - 1) (a .process) p (omega (arith, oa .above)) (omega (arith, oa .below, ea .stop, ea .to))
         (omega (arith, here, c .from)) (omega (arith, c .begun (k .busy), c .to, c .stop)) in
-        let d₃ : finished (processAt (s .bench) (a .process)) ≡ finished (processAt (s .bench) p) = ap (λ (j : ℕ). finished (processAt (s .bench) j)) d₂ in
+        let d₃ : finished (processAt (s .bench) (a .process)) ≡ finished (processAt (s .bench) p) =
+        ap (λ (j : ℕ). finished (processAt (s .bench) j)) d₂ in
         omega (arith, oa .below, here, finished-old r (k .was) (k .busy)))
 
   abbrev Log : List Entry → Type 0
@@ -184,8 +196,10 @@ module _ (f : RunFile) (w : InRanges f) (s : State) (v : Sound (sizesOf f) s) (i
       with-new _ (λ _. new (entry p n r Pushed (pushedNode (r .call)) (2 * n)) refl (push-is g) (ap stageAfter d))
       (apart (entry p n r Pushed (pushedNode (r .call)) (2 * n)) refl (push-is g) (ap stageAfter d))
   logged (next.Node x) d g =
-      let u = node-other p n r (processAt (s .bench) (queueOf p (r .call))) (queueAt (s .bench) (queueOf p (r .call)) .word .top) x (isTake (r .call)) in
-      with-new _ (λ y. absurd (u y)) (no-pushed (nodeEntry p n r (processAt (s .bench) (queueOf p (r .call))) (queueAt (s .bench) (queueOf p (r .call)) .word .top) x) u)
+      let u =
+      node-other p n r (processAt (s .bench) (queueOf p (r .call))) (queueAt (s .bench) (queueOf p (r .call)) .word .top) x (isTake (r .call)) in
+      with-new _ (λ y. absurd (u y))
+      (no-pushed (nodeEntry p n r (processAt (s .bench) (queueOf p (r .call))) (queueAt (s .bench) (queueOf p (r .call)) .word .top) x) u)
   logged next.Nil d g = let u = nil-other p n r (isTake (r .call)) in with-new _ (λ y. absurd (u y)) (no-pushed (nilEntry p n r) u)
   logged next.Lost d g = with-new _ (λ y. absurd (lost-other y)) (no-pushed (entry p n r TopLost 0 noMoment) lost-other)
   logged next.Full d g =
@@ -202,7 +216,14 @@ module _ (f : RunFile) (w : InRanges f) (s : State) (v : Sound (sizesOf f) s) (i
 pub origins : (f : RunFile) → InRanges f → (s : State) → StateOf f s → Origins f s
 origins f w s o = everywhere (sizesOf f) (fit f w) (ByScript f) (start f) (start-fresh f w) (Origins f)
     (record { each = each-start f w; origin = tt; once = tt })
-    (λ s v i. record { each = i .each; origin = all-map _ _ (λ e g d. let a = g d in record { call = a .call; process = a .process; above = a .above; below = a .below; pushes = a .pushes }) (s .log) (i .origin); once = i .once })
+    (λ s v i. record {
+      each = i .each;
+      origin =
+          all-map _ _
+          (λ e g d. let a = g d in record { call = a .call; process = a .process; above = a .above; below = a .below; pushes = a .pushes }) (s .log)
+          (i .origin);
+      once = i .once;
+    })
     (λ s v i p r k c. origins-act f w s v i p r k (c .0)) s (reached f w s o) .1
 
 pub node-in : (f : RunFile) → InRanges f → (s : State) (e : Entry) → From f s e → (1 ≤ e .node) × (e .node ≤ 65535)

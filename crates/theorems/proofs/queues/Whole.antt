@@ -45,7 +45,8 @@ abbrev pub SeatOk : ℕ → ℕ → ℕ → List Entry → Memory → Seat → T
 SeatOk C n q l m σ = QueueOk C n (σ .node) l m (σ .stage) (σ .b2) (nodesBy q l m σ)
 
 abbrev pub ThiefOk : ℕ → ℕ → ℕ → List Entry → Memory → Seat → Process → Type 0
-ThiefOk C n p l m σ r = AtTop C n p (queueOf p (r .call)) (r .start) (r .resetsAtT1) l m (σ .stage) (σ .b2) (nodesBy (queueOf p (r .call)) l m σ) (r .stage)
+ThiefOk C n p l m σ r =
+    AtTop C n p (queueOf p (r .call)) (r .start) (r .resetsAtT1) l m (σ .stage) (σ .b2) (nodesBy (queueOf p (r .call)) l m σ) (r .stage)
 
 -- a process in its time: its call began after its entries' ends, and B2 after that
 pub record Timed (n p : ℕ) (l : List Entry) (r : Process) : Type 0 where
@@ -80,7 +81,9 @@ pub record Written (P : ℕ) (e : Entry) : Type 0 where
 pub record Inv (f : Sizes) (s : State) : Type 0 where
   pub queues : (q : ℕ) → q < processes f → SeatOk (f .size) (s .bench .steps) q (s .log) (memoryAt s q) (seat s q)
   pub timed : (p : ℕ) → p < processes f → Timed (s .bench .steps) p (s .log) (processAt (s .bench) p)
-  pub thieves : (p : ℕ) → p < processes f → ThiefOk (f .size) (s .bench .steps) p (s .log) (memoryAt s (queueOf p (processAt (s .bench) p .call))) (seat s (queueOf p (processAt (s .bench) p .call))) (processAt (s .bench) p)
+  pub thieves : (p : ℕ) → p < processes f
+      → ThiefOk (f .size) (s .bench .steps) p (s .log) (memoryAt s (queueOf p (processAt (s .bench) p .call)))
+      (seat s (queueOf p (processAt (s .bench) p .call))) (processAt (s .bench) p)
   pub apart : (a b : ℕ) → a < processes f → b < processes f → (a ≡ b → ⊥) → pastB2 (seat s a .stage) ≡ true → pastB2 (seat s b .stage) ≡ true
       → seat s a .b2 ≡ seat s b .b2 → ⊥
   pub fine : All (λ (e : Entry). Fine (s .bench .steps) (s .log) (nodesBy (e .queue) (s .log) (memoryAt s (e .queue)) (seat s (e .queue))) e) (s .log)
@@ -91,7 +94,8 @@ pub record Inv (f : Sizes) (s : State) : Type 0 where
 pub old-log : (f : Sizes) (s : State) → Inv f s → Old (s .bench .steps) (s .log)
 old-log f s h x i = all-map _ _ (λ e g b d. no-late e g b d) (s .log) (h .fine)
   where
-    no-late : (e : Entry) → Fine (s .bench .steps) (s .log) (nodesBy (e .queue) (s .log) (memoryAt s (e .queue)) (seat s (e .queue))) e → bears e ≡ true
+    no-late : (e : Entry) → Fine (s .bench .steps) (s .log) (nodesBy (e .queue) (s .log) (memoryAt s (e .queue)) (seat s (e .queue))) e
+        → bears e ≡ true
         → e .moment ≡ x → ⊥
     no-late e g b d = omega (arith, g .to b, g .ended)
 
@@ -101,7 +105,8 @@ nil-keeps : (l : List Entry) (K : ℕ → List ℕ) (l′ : List Entry) (K′ : 
 nil-keeps l K l′ K′ n e en i k h =
     cause-keeps l K l′ K′ (e .process) (e .queue) (e .start) (2 * e .end + 2) (2 * e .end + 2) i (λ x g. k x (omega arith)) (omega arith) h
 
-right-keeps : (l : List Entry) (K : ℕ → List ℕ) (l′ : List Entry) (K′ : ℕ → List ℕ) (n : ℕ) (e : Entry) → e .end < n → ((d : Entry) → In d l → In d l′)
+right-keeps : (l : List Entry) (K : ℕ → List ℕ) (l′ : List Entry) (K′ : ℕ → List ℕ) (n : ℕ) (e : Entry) → e .end < n
+    → ((d : Entry) → In d l → In d l′)
     → ((x : ℕ) → x ≤ 2 * n → K′ x ≡ K x) → (w : What) → (bearsMoment w ≡ true → e .moment ≤ 2 * n) → Right l K e w → Right l′ K′ e w
 right-keeps l K l′ K′ n e en i k Pushed b h = tt
 right-keeps l K l′ K′ n e en i k Full b h = tt
@@ -123,7 +128,8 @@ fine-keeps n l K l′ K′ i k e h =
     }
 
 -- another queue's log and nodes
-module _ {n p q f : ℕ} {call : Call} {l : List Entry} {s : Stage} {k : ℕ} {K′ : ℕ → List ℕ} {l′ : List Entry} (gr : Grow n p q f call l s k K′ l′) where
+module _ {n p q f : ℕ} {call : Call} {l : List Entry} {s : Stage} {k : ℕ} {K′ : ℕ → List ℕ} {l′ : List Entry}
+    (gr : Grow n p q f call l s k K′ l′) where
   pub in-grow : (e : Entry) → In e l → In e l′
   in-grow e i = go l′ gr
     where

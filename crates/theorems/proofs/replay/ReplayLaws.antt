@@ -22,7 +22,8 @@ use Rattle.runs.specs.State.{Process, Queue, State, fresh, processAt, start}
 use Rattle.runs.specs.Turn.{turn, turning}
 use Rattle.runs.proofs.InRange.{run-cases}
 use Rattle.runs.proofs.States.{closer}
-use Rattle.theorems.specs.Replay.{freshTable, numbers, Lent, replay, Sheet, lowestHalfDone, sheetAfter, freshSheet, Accepts, lentWith, lentPlaying, lentClosing, lentBy, tableOf, Replayed, EveryRunReplayed, OnlyWay}
+use Rattle.theorems.specs.Replay.{freshTable, numbers, Lent, replay, Sheet, lowestHalfDone, sheetAfter, freshSheet, Accepts, lentWith}
+use Rattle.theorems.specs.Replay.{lentPlaying, lentClosing, lentBy, tableOf, Replayed, EveryRunReplayed, OnlyWay}
 use Rattle.theorems.proofs.replay.ReplayStep.{noteOf, sheetOf, Step, act-step, after-act, turn-step, after-turn}
 use Rattle.runs.proofs.Sound.{sound-fresh}
 use Rattle.runs.specs.inner.Sound.{Sound}
@@ -57,10 +58,12 @@ module _ (f : RunFile) (h : InRanges f) where
   abbrev C : ℕ
   C = f .size
 
-  replays-closing : (k : ℕ) (s : State) → Sound (sizesOf f) s × Each f s → lowest (close W C k s .bench .processes) ≡ 8 → Replays f (close W C k s) [] s (lentClosing W C k s)
+  replays-closing : (k : ℕ) (s : State) → Sound (sizesOf f) s × Each f s → lowest (close W C k s .bench .processes) ≡ 8
+      → Replays f (close W C k s) [] s (lentClosing W C k s)
   unfolding close lentClosing
   replays-closing zero s v e = no-more f s e
-  replays-closing (suc k) s v e = by (ltb p 8) refl e (λ lt. replays-closing k s′ (let cl = closer f h s (v .0) (v .1) lt in after-act f h s (v .0) (v .1) p r (cl .0) (cl .1)))
+  replays-closing (suc k) s v e =
+      by (ltb p 8) refl e (λ lt. replays-closing k s′ (let cl = closer f h s (v .0) (v .1) lt in after-act f h s (v .0) (v .1) p r (cl .0) (cl .1)))
     where
       p : ℕ
       p = lowest (s .bench .processes)
@@ -77,23 +80,28 @@ module _ (f : RunFile) (h : InRanges f) where
       by true d z more =
           let lt : p < 8 = ltb-true p 8 d in
           one-more f (close W C k s′) [] s s′ (lentWith p r) (lentClosing W C k s′)
-          (let cl = closer f h s (v .0) (v .1) lt in act-step f h s (v .0) (v .1) [] p r (half-done f (s .bench .processes)) (cl .0) (cl .1)) (more lt z)
+          (let cl = closer f h s (v .0) (v .1) lt in act-step f h s (v .0) (v .1) [] p r (half-done f (s .bench .processes)) (cl .0) (cl .1))
+          (more lt z)
       by false d z more = no-more f s z
 
-  replays-schedule : (e : State) (ls : List Lent) (ps : List ℕ) (s : State) → Sound (sizesOf f) s × Each f s → ((k : ℕ) → k < length ps → getD ps k 0 < length (f .shares))
-      → (Sound (sizesOf f) (play W C (f .calls) ps s) × Each f (play W C (f .calls) ps s) → Replays f e [] (play W C (f .calls) ps s) ls) → Replays f e ps s (lentPlaying W C (f .calls) ps s ++ ls)
+  replays-schedule : (e : State) (ls : List Lent) (ps : List ℕ) (s : State) → Sound (sizesOf f) s × Each f s
+      → ((k : ℕ) → k < length ps → getD ps k 0 < length (f .shares))
+      → (Sound (sizesOf f) (play W C (f .calls) ps s) × Each f (play W C (f .calls) ps s) → Replays f e [] (play W C (f .calls) ps s) ls)
+      → Replays f e ps s (lentPlaying W C (f .calls) ps s ++ ls)
   unfolding play lentPlaying
   replays-schedule e ls [] s v below closing = closing v
   replays-schedule e ls (p ∷ ps) s v below closing =
       let s′ : State = turn W C (f .calls) p s in
       let lt : p < length (f .shares) = below 0 (omega arith) in
-      one-more f e (p ∷ ps) s s′ (lentWith p (turning (f .calls) p s)) (lentPlaying W C (f .calls) ps s′ ++ ls) (turn-step f h s (v .0) (v .1) ps p lt)
+      one-more f e (p ∷ ps) s s′ (lentWith p (turning (f .calls) p s)) (lentPlaying W C (f .calls) ps s′ ++ ls)
+      (turn-step f h s (v .0) (v .1) ps p lt)
       (replays-schedule e ls ps s′ (after-turn f h s (v .0) (v .1) p lt) (λ k l. below (suc k) (omega arith)) closing)
 
   run-replays : Replays f (closed f) (f .schedule) (start f) (lentBy f)
   unfolding closed lentBy
   run-replays =
-      replays-schedule (closed f) (lentClosing W C closingSteps (played f)) (f .schedule) (start f) (sound-fresh (sizesOf f) (fit f h) (start f) (start-fresh f h), each-start f h) (h .schedule)
+      replays-schedule (closed f) (lentClosing W C closingSteps (played f)) (f .schedule) (start f)
+      (sound-fresh (sizesOf f) (fit f h) (start f) (start-fresh f h), each-start f h) (h .schedule)
       (λ v. replays-closing closingSteps (played f) v (all-closed f))
 
 -- the sheet at the start: the calls of a process are those of its script

@@ -27,7 +27,8 @@ use Rattle.runs.specs.Moment.{queueOf}
 use Rattle.runs.specs.State.{Process, Queue, State, fresh, nobody, queueAt, processAt}
 use Rattle.runs.specs.Turn.{firstStage, begun, processAfter, queueAfter, acted, act, idle, turnAs, turn, turning}
 use Rattle.runs.proofs.KindLaws.{idle-is}
-use Rattle.theorems.specs.Replay.{wordAt, slotsAt, Lent, answerTo, Note, firstOf, queueFor, lends, noted, Sheet, noteAt, whoNext, sheetAfter, lentWith, tableOf}
+use Rattle.theorems.specs.Replay.{wordAt, slotsAt, Lent, answerTo, Note, firstOf, queueFor, lends, noted, Sheet, noteAt, whoNext, sheetAfter}
+use Rattle.theorems.specs.Replay.{lentWith, tableOf}
 use Rattle.runs.proofs.Sound.{Was, goes, begins, Steps, rowAt, act-is, sound-act, sound-idle}
 use Rattle.runs.specs.inner.Sound.{Sound}
 use Rattle.runs.proofs.Scripts.{sizesOf, fit, finished, sum-take, Scripted, Each, ready-case, turn-case, each-act}
@@ -197,7 +198,8 @@ module _ (f : RunFile) (h : InRanges f) (s : State) (v : Sound (sizesOf f) s) (c
         (map-set (noteOf f) (s .bench .processes) p r′ ∙ ap (set notes p) (sym busy-note)) refl))
 
   -- an idle step: the process has no call left
-  module _ (ps : List ℕ) (p : ℕ) (who : whoNext (sheetOf f ps s) ≡ p) (lt : p < length (f .shares)) (e : isIdle (processAt (s .bench) p .stage) ≡ true)
+  module _ (ps : List ℕ) (p : ℕ) (who : whoNext (sheetOf f ps s) ≡ p) (lt : p < length (f .shares))
+      (e : isIdle (processAt (s .bench) p .stage) ≡ true)
       (same : turning (f .calls) p s ≡ processAt (s .bench) p) where
     abbrev r : Process
     r = processAt (s .bench) p
@@ -228,7 +230,8 @@ module _ (f : RunFile) (h : InRanges f) (s : State) (v : Sound (sizesOf f) s) (c
     idle-lends = λ i. record {
       process = p;
       queue = ap (queueFor p) none-left i;
-      stage = (ap (λ (l : List Call). cond (isIdle (r .stage)) (firstOf l) (r .stage)) none-left ∙ ap (λ (z : Stage). cond (isIdle z) Idle z) waits) i;
+      stage =
+          (ap (λ (l : List Call). cond (isIdle (r .stage)) (firstOf l) (r .stage)) none-left ∙ ap (λ (z : Stage). cond (isIdle z) Idle z) waits) i;
     }
 
     idle-note : noteAfter Idle (noteOf f r .calls) ≡ noteOf f r

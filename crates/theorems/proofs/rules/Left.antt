@@ -113,7 +113,8 @@ module _ (f : RunFile) (w : InRanges f) (gone : closed f .bench .gone ≡ 0) whe
     counted : nodesBy (at l) (length l) q (afterAll (at l) (length l)) ≡ bottom - top
     counted =
         let k = held-is-counted (at l) (length l) P (f .size) (log-accepted f w gone) q (afterAll (at l) (length l)) in
-        let n : length (leftIn (at l) (length l) q) ≡ bottom - top = ap length left-is ∙ length-slice top bottom (slotsAt s q) (omega (arith, fits, long)) in
+        let n : length (leftIn (at l) (length l) q) ≡ bottom - top = ap length left-is
+        ∙ length-slice top bottom (slotsAt s q) (omega (arith, fits, long)) in
         omega arith
 
   -- the log's bytes say these entries

@@ -207,9 +207,11 @@ module _ (f : Sizes) (w : Fit f) (s : State) (v : Sound f s) (h : Inv f s) (j : 
   fulls-after (next.Going z) g = j .fulls
   fulls-after next.Done g = full-after _ (other Pushed refl)
   fulls-after (next.Node x) g =
-      either-way (λ (e : Entry). Fulls (l ++ (e ∷ []))) (isTake (r .call)) (λ _. full-after _ (other TopNode refl)) (λ _. full-after _ (other BottomNode refl))
+      either-way (λ (e : Entry). Fulls (l ++ (e ∷ []))) (isTake (r .call)) (λ _. full-after _ (other TopNode refl))
+      (λ _. full-after _ (other BottomNode refl))
   fulls-after next.Nil g =
-      either-way (λ (e : Entry). Fulls (l ++ (e ∷ []))) (isTake (r .call)) (λ _. full-after _ (other TopNil refl)) (λ _. full-after _ (other BottomNil refl))
+      either-way (λ (e : Entry). Fulls (l ++ (e ∷ []))) (isTake (r .call)) (λ _. full-after _ (other TopNil refl))
+      (λ _. full-after _ (other BottomNil refl))
   fulls-after next.Lost g = full-after _ (other TopLost refl)
   fulls-after next.Full g = full-after _ (λ _. g refl)
 
@@ -229,7 +231,8 @@ module _ (f : Sizes) (w : Fit f) (s : State) (v : Sound f s) (h : Inv f s) (j : 
     room-before = was r (k .was) i (j .room q (k .placed .queue)) (here f w s v h p r k i)
       where
         was : (r : Process) → Was f s p r → isOwn (r .stage) ≡ true
-            → RoomFor (s .log) (queueOf p (r .call)) (lim (queueAt (s .bench) (queueOf p (r .call)) .word .bottom) (seat s (queueOf p (r .call)) .stage))
+            → RoomFor (s .log) (queueOf p (r .call))
+            (lim (queueAt (s .bench) (queueOf p (r .call)) .word .bottom) (seat s (queueOf p (r .call)) .stage))
             → queueOf p (r .call) ≡ p
             → RoomFor (s .log) (queueOf p (r .call)) (lim (queueAt (s .bench) (queueOf p (r .call)) .word .bottom) (r .stage))
         was r goes i g e =
@@ -264,7 +267,8 @@ module _ (f : Sizes) (w : Fit f) (s : State) (v : Sound f s) (h : Inv f s) (j : 
     own-act : RoomOf (logged (o .next))
     own-act = record {
       room = λ b lt. if-set (λ (m : Queue). RoomFor (logged (o .next)) b (lim (m .word .bottom) (seat (acted p r s o) b .stage)))
-          (s .bench .queues) q b (queueAfter (queueAt (s .bench) q) o) fresh (omega (arith, k .placed .queue, v .queues, w .processes)) (mine b) (others b lt);
+          (s .bench .queues) q b (queueAfter (queueAt (s .bench) q) o) fresh (omega (arith, k .placed .queue, v .queues, w .processes)) (mine b)
+          (others b lt);
       fulls = fulls-after (o .next) full-here;
     }
       where
@@ -279,7 +283,8 @@ module _ (f : Sizes) (w : Fit f) (s : State) (v : Sound f s) (h : Inv f s) (j : 
 
         others : (b : ℕ) → b < processes f → (b ≡ q → ⊥)
             → RoomFor (logged (o .next)) b (lim (queueAt (s .bench) b .word .bottom) (seat (acted p r s o) b .stage))
-        others b lt e = at-record f w s v h p r k (λ (z : Process). RoomFor (logged (o .next)) b (lim (queueAt (s .bench) b .word .bottom) (seatOf z .stage))) b
+        others b lt e =
+            at-record f w s v h p r k (λ (z : Process). RoomFor (logged (o .next)) b (lim (queueAt (s .bench) b .word .bottom) (seatOf z .stage))) b
             (λ d. absurd (e (d ∙ sym (here f w s v h p r k i)))) (λ _. else-after (o .next) b _ (λ d. e (sym d)) (j .room b lt))
 
   -- A TOP POP
@@ -294,7 +299,8 @@ module _ (f : Sizes) (w : Fit f) (s : State) (v : Sound f s) (h : Inv f s) (j : 
     top-after : (x : Next) → Gives (r .stage) x → (b y : ℕ) → RoomFor l b y → RoomFor (logged x) b y
     top-after (next.Going z) g b y h = h
     top-after next.Done g b y h = absurd (no-push g)
-    top-after (next.Node x) g b y h = either-way (λ (e : Entry). RoomFor (l ++ (e ∷ [])) b y) (isTake (r .call)) (λ _. room-after l _ b y refl refl refl h)
+    top-after (next.Node x) g b y h =
+        either-way (λ (e : Entry). RoomFor (l ++ (e ∷ [])) b y) (isTake (r .call)) (λ _. room-after l _ b y refl refl refl h)
         (λ t. ever (sym taking ∙ t))
     top-after next.Nil g b y h = either-way (λ (e : Entry). RoomFor (l ++ (e ∷ [])) b y) (isTake (r .call)) (λ _. room-after l _ b y refl refl refl h)
         (λ t. ever (sym taking ∙ t))

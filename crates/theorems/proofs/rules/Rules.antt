@@ -126,7 +126,8 @@ no-moment e TopNode h b = ever b
 no-moment e TopNil h b = h .1
 no-moment e TopLost h b = h .1
 
-module _ (f : RunFile) (w : InRanges f) (s : State) (h : Inv (sizesOf f) s) (j : Room (sizesOf f) s) (g : Origins f s) (idle : (p : ℕ) → processAt (s .bench) p .stage ≡ Idle)
+module _ (f : RunFile) (w : InRanges f) (s : State) (h : Inv (sizesOf f) s) (j : Room (sizesOf f) s) (g : Origins f s)
+    (idle : (p : ℕ) → processAt (s .bench) p .stage ≡ Idle)
     (short : s .bench .steps ≤ 32767) where
   abbrev l : List Entry
   l = s .log

@@ -88,7 +88,8 @@ module _ (W C : ℕ) (w : Word) (v n seen : ℕ) (e : w .tag ≡ n % 2 ^ W) wher
   no-lost x d = absurd (let c : _≡_ {A = ℕ} 0 1 = cc in omega arith)
 
   -- a step that leaves the tag, of the owner's or with no node
-  keeps : (s : Stage) (o : Stepped) → o .reset ≡ false → o .word .tag ≡ w .tag → (pastB4 (stageAfter (o .next)) ≡ true → loadedTag (stageAfter (o .next)) ≡ w .tag)
+  keeps : (s : Stage) (o : Stepped) → o .reset ≡ false → o .word .tag ≡ w .tag
+      → (pastB4 (stageAfter (o .next)) ≡ true → loadedTag (stageAfter (o .next)) ≡ w .tag)
       → (pastT1 (stageAfter (o .next)) ≡ true → (cond (atT1 s) n seen ≤ n) × (loadedTag (stageAfter (o .next)) ≡ cond (atT1 s) n seen % 2 ^ W))
       → (isTop s ≡ true → (x : ℕ) → o .next ≡ next.Node x → (rowNumber s ≡ 7) × (w .tag ≡ loadedTag s)) → TagStep W w n seen s o
   keeps s o a b c d i = record {
@@ -123,13 +124,15 @@ module _ (W C : ℕ) (w : Word) (v n seen : ℕ) (e : w .tag ≡ n % 2 ^ W) wher
   tag-step (T3 t g c) a b = keeps (T3 t g c) _ refl refl never b (λ _ x d. no-node _ x d)
   tag-step (T4 t g c y) a b = if-age (Gives (T4 t g c y)) w t g (λ i j. keeps (T4 t g c y) _ refl (sym j) never never (λ _ x d. (refl, j)))
       (λ _. keeps (T4 t g c y) _ refl refl never never (λ _ x d. no-lost x d))
-  tag-step B1 a b = either-way (Gives B1) (eqb (w .bottom) 0) (λ _. keeps B1 _ refl refl never never never) (λ _. keeps B1 _ refl refl never never never)
+  tag-step B1 a b =
+      either-way (Gives B1) (eqb (w .bottom) 0) (λ _. keeps B1 _ refl refl never never never) (λ _. keeps B1 _ refl refl never never never)
   tag-step (B2 c) a b = keeps (B2 c) _ refl refl never never never
   tag-step (B3 c) a b = keeps (B3 c) _ refl refl never never never
   tag-step (B4 c y) a b = either-way (Gives (B4 c y)) (ltb (w .top) (c - 1)) (λ _. keeps (B4 c y) _ refl refl never never never)
       (λ _. keeps (B4 c y) _ refl refl (λ _. refl) never never)
   tag-step (B5 c y t g) a b =
-      either-way (λ (z : Stage). TagStep W w n seen (B5 c y t g) (leaves (record { bottom = 0; top = w .top; tag = w .tag }) (next.Going z))) (eqb (c - 1) t)
+      either-way (λ (z : Stage). TagStep W w n seen (B5 c y t g) (leaves (record { bottom = 0; top = w .top; tag = w .tag }) (next.Going z)))
+      (eqb (c - 1) t)
       (λ _. keeps (B5 c y t g) _ refl refl a never never) (λ _. keeps (B5 c y t g) _ refl refl a never never)
   tag-step (B6 c y t g) a b = either-way (Gives (B6 c y t g)) (sameAge w t g) (λ _. anew (B6 c y t g) g (next.Node y) refl refl (a refl) refl)
       (λ _. keeps (B6 c y t g) _ refl refl a never never)
@@ -161,7 +164,8 @@ past-owns s e = or-r (isPush s) (leb 8 (rowNumber s)) (le-leb 8 (rowNumber s) (o
 -- what holds of the record of process p, or of one with its next call begun
 pub record Seen (W : ℕ) (s : State) (p : ℕ) (r : Process) : Type 0 where
   own : pastB4 (r .stage) ≡ true → loadedTag (r .stage) ≡ queueAt (s .bench) p .word .tag
-  thief : pastT1 (r .stage) ≡ true → (r .resetsAtT1 ≤ queueAt (s .bench) (queueOf p (r .call)) .resets) × (loadedTag (r .stage) ≡ r .resetsAtT1 % 2 ^ W)
+  thief : pastT1 (r .stage) ≡ true
+      → (r .resetsAtT1 ≤ queueAt (s .bench) (queueOf p (r .call)) .resets) × (loadedTag (r .stage) ≡ r .resetsAtT1 % 2 ^ W)
 
 pub record TagsRight (f : Sizes) (s : State) : Type 0 where
   pub tags : (q : ℕ) → q < processes f → queueAt (s .bench) q .word .tag ≡ queueAt (s .bench) q .resets % 2 ^ f .width
@@ -198,9 +202,11 @@ module _ (f : Sizes) (h : Fit f) (s : State) (v : Sound f s) (i : TagsRight f s)
 
   step : TagStep (f .width) (queueAt (s .bench) (queueOf p (r .call)) .word) (queueAt (s .bench) (queueOf p (r .call)) .resets) (r .resetsAtT1) (r .stage) (rowAt f s p r)
   step =
-      tag-step (f .width) (f .size) (queueAt (s .bench) (queueOf p (r .call)) .word) (loaded (slotsAt s (queueOf p (r .call))) (loadedSlot (r .stage)))
+      tag-step (f .width) (f .size) (queueAt (s .bench) (queueOf p (r .call)) .word)
+      (loaded (slotsAt s (queueOf p (r .call))) (loadedSlot (r .stage)))
       (queueAt (s .bench) (queueOf p (r .call)) .resets) (r .resetsAtT1) (i .tags (queueOf p (r .call)) (k .placed .queue)) (r .stage)
-      (λ e. subst (λ (j : ℕ). loadedTag (r .stage) ≡ queueAt (s .bench) j .word .tag) (sym (owns (past-owns (r .stage) e))) (mine .own e)) (mine .thief)
+      (λ e. subst (λ (j : ℕ). loadedTag (r .stage) ≡ queueAt (s .bench) j .word .tag) (sym (owns (past-owns (r .stage) e))) (mine .own e))
+      (mine .thief)
 
   at-queue : (Q : Queue → Type 0) (j : ℕ) → (j ≡ queueOf p (r .call) → Q (queueAfter (queueAt (s .bench) (queueOf p (r .call))) (rowAt f s p r)))
       → ((j ≡ queueOf p (r .call) → ⊥) → Q (queueAt (s .bench) j)) → Q (queueAt (acted p r s (rowAt f s p r) .bench) j)
@@ -224,7 +230,9 @@ module _ (f : Sizes) (h : Fit f) (s : State) (v : Sound f s) (i : TagsRight f s)
   tags-act : TagsRight f (acted p r s (rowAt f s p r))
   tags-act = record {
     tags = λ j lt. at-queue (λ (m : Queue). m .word .tag ≡ m .resets % 2 ^ f .width) j (λ e. step .right) (λ e. i .tags j lt);
-    loaded-tags = λ j lt. if-set (λ (x : Process). Seen (f .width) t j x) (s .bench .processes) p j r′ nobody (omega (arith, k .below, v .records, h .processes))
+    loaded-tags =
+        λ j lt. if-set (λ (x : Process). Seen (f .width) t j x) (s .bench .processes) p j r′ nobody
+        (omega (arith, k .below, v .records, h .processes))
         (λ e. rw e self)
         (λ e. let w = i .loaded-tags j lt in record {
           own = λ d. w .own d ∙ sym (other-own j e);
@@ -278,7 +286,8 @@ tags-fresh f h s z = record {
 }
 
 -- the resets of each queue are at most the steps
-resets-act : (f : Sizes) → Fit f → (s : State) → Sound f s → TagsRight f s → ((q : ℕ) → q < processes f → queueAt (s .bench) q .resets ≤ s .bench .steps)
+resets-act : (f : Sizes) → Fit f → (s : State) → Sound f s → TagsRight f s
+    → ((q : ℕ) → q < processes f → queueAt (s .bench) q .resets ≤ s .bench .steps)
     → (p : ℕ) (r : Process) → Steps f s p r → (q : ℕ) → q < processes f → queueAt (acted p r s (rowAt f s p r) .bench) q .resets ≤ s .bench .steps + 1
 resets-act f h s v i few p r k q lt =
     at-queue f h s v i p r k (λ (m : Queue). m .resets ≤ s .bench .steps + 1) q
@@ -296,14 +305,18 @@ pub short : (f : Sizes) → Fit f → (Ok : State → ℕ → Process → Type 0
 short f h Ok s₀ z s o = everywhere f h Ok s₀ z (Short f)
     (record {
       right = tags-fresh f h s₀ z;
-      few = λ q lt. subst (λ (l : List Queue). getD l q fresh .resets ≤ s₀ .bench .steps) (sym (z .queues)) (rw (getD-replicate 8 q fresh fresh (omega (arith, h .processes))) (omega arith));
+      few =
+          λ q lt. subst (λ (l : List Queue). getD l q fresh .resets ≤ s₀ .bench .steps) (sym (z .queues))
+          (rw (getD-replicate 8 q fresh fresh (omega (arith, h .processes))) (omega arith));
       none = λ _. z .gone;
     })
     (λ s v i. record { right = tags-idle f s (i .right); few = λ q lt. omega (arith, i .few q lt); none = λ lt. i .none (omega arith) })
     (λ s v i p r k ok. record {
       right = tags-act f h s v (i .right) p r k;
       few = resets-act f h s v (i .right) (i .few) p r k;
-      none = λ lt. omega (arith, i .none (omega arith), none-here f h s v (i .right) p r k (λ _ _. omega (arith, i .few (queueOf p (r .call)) (k .placed .queue))));
+      none =
+          λ lt. omega
+          (arith, i .none (omega arith), none-here f h s v (i .right) p r k (λ _ _. omega (arith, i .few (queueOf p (r .call)) (k .placed .queue))));
     }) s o .1
 
 right : (f : RunFile) → InRanges f → (s : State) → StateOf f s → TagsRight (sizesOf f) s
@@ -314,7 +327,8 @@ pub none-gone-round : (f : RunFile) → InRanges f → ((s : State) → StateOf 
 none-gone-round f h few =
     let z = sizesOf f in
     let w = fit f h in
-    everywhere z w (ByScript f) (start f) (start-fresh f h) (λ s. TagsRight z s × (s .bench .gone ≡ 0)) (tags-fresh z w (start f) (start-fresh f h), refl)
+    everywhere z w (ByScript f) (start f) (start-fresh f h) (λ s. TagsRight z s × (s .bench .gone ≡ 0))
+    (tags-fresh z w (start f) (start-fresh f h), refl)
     (λ s v i. (tags-idle z s (i .0), i .1))
     (λ s v i p r k ok. (
       tags-act z w s v (i .0) p r k,
@@ -322,7 +336,8 @@ none-gone-round f h few =
         arith,
         i .1,
         none-here z w s v (i .0) p r k (λ _ e.
-            subst (λ (x : Process). queueAt (s .bench) (queueOf p (x .call)) .resets < x .resetsAtT1 + 2 ^ f .width) (sym (at-T4 z w s v (i .0) p r k r (k .was) e))
+            subst (λ (x : Process). queueAt (s .bench) (queueOf p (x .call)) .resets < x .resetsAtT1 + 2 ^ f .width)
+            (sym (at-T4 z w s v (i .0) p r k r (k .was) e))
             (few s (ok .1) p (k .below) (ap (λ (x : Process). rowNumber (x .stage)) (sym (at-T4 z w s v (i .0) p r k r (k .was) e)) ∙ e))),
       ),
     ))

@@ -22,7 +22,8 @@ all l = listOf 8 (processAtIn l)
 eight : (l : List HeldProcess) → length (all l) ≡ 8
 eight l = listOf-length 8 (processAtIn l)
 
-half-of : (l : List HeldProcess) (i half : ℕ) → i < 8 → half ≡ bit (isIdle (getD l i idleHeld .stage)) → half ≡ bit (isIdle (getD (all l) i nobody .stage))
+half-of : (l : List HeldProcess) (i half : ℕ) → i < 8 → half ≡ bit (isIdle (getD l i idleHeld .stage))
+    → half ≡ bit (isIdle (getD (all l) i nobody .stage))
 half-of l i half lt e = e ∙ ap (λ (x : Process). bit (isIdle (x .stage))) (sym (listOf-getD 8 (processAtIn l) nobody i lt))
 
 abbrev Inv-loop : tie.InvT-loop
@@ -35,13 +36,25 @@ loop-holds : tie.Need-loop-holds Inv-loop μ-loop
 loop-holds c = (omega arith, half-start (all (c .args .t1)) (eight (c .args .t1)))
 
 mul-set : tie.Need-mul-set Inv-loop μ-loop
-mul-set c = omega (arith, half-fits (all (c .before .before .before .before .args .t1)) (eight (c .before .before .before .before .args .t1)) _ _ (c .before .before .before .loop .inv .1) (c .before .before .loop-test .taken))
+mul-set c =
+    let l = c .before .before .before .before .args .t1 in
+    omega (arith, half-fits (all l) (eight l) _ _ (c .before .before .before .loop .inv .1) (c .before .before .loop-test .taken))
 
 add-set : tie.Need-add-set Inv-loop μ-loop
-add-set c = omega (arith, half-fits (all (c .before .before .before .before .args .t1)) (eight (c .before .before .before .before .args .t1)) _ _ (c .before .before .before .loop .inv .1) (c .before .before .loop-test .taken), c .bit .ensures, bit-most (isIdle (getD (c .before .before .before .before .args .t1) (c .before .before .before .loop .i - 1) idleHeld .stage)))
+add-set c =
+    let l = c .before .before .before .before .args .t1 in
+    let h = c .before .before .before .loop in
+    omega
+    (arith, half-fits (all l) (eight l) _ _ (h .inv .1) (c .before .before .loop-test .taken), c .bit .ensures, bit-most (isIdle (getD l (h .i - 1) idleHeld .stage)))
 
 loop-again : tie.Need-loop-again Inv-loop μ-loop
-loop-again c = (omega arith, half-loop (all (c .before .before .before .before .args .t1)) (eight (c .before .before .before .before .args .t1)) _ _ _ (c .before .before .before .loop .inv .1) (c .before .before .loop-test .taken) (c .before .before .before .loop .inv .0) (half-of (c .before .before .before .before .args .t1) _ _ (omega (arith, c .before .before .before .loop .inv .0, c .before .before .loop-test .taken)) (c .bit .ensures)))
+loop-again c =
+    let l = c .before .before .before .before .args .t1 in
+    let h = c .before .before .before .loop in
+    let more = c .before .before .loop-test .taken in (
+      omega arith,
+      half-loop (all l) (eight l) _ _ _ (h .inv .1) more (h .inv .0) (half-of l _ _ (omega (arith, h .inv .0, more)) (c .bit .ensures)),
+    )
 
 returns : tie.Need-returns Inv-loop μ-loop
 returns c = half-all (all (c .before .before .args .t1)) (eight (c .before .before .args .t1)) _ _ (c .before .loop .inv .1) (c .loop-test .left)

@@ -44,7 +44,8 @@ so false e = sym e
 abbrev Inv-loop : tie.InvT-loop
 Inv-loop file shape schedule closing slots₀ log₀ run₀ idle i₀ slots log run i =
     (i ≤ length schedule) × (length slots ≡ 512) × (idle ≡ cond closing 0 1)
-    × Walked (sizesIn shape) (shape .calls) (run₀ .entries) closing (callsOf file shape) schedule log₀ (stateIn (shape .size) run₀ slots₀) i run slots log
+    × Walked (sizesIn shape) (shape .calls) (run₀ .entries) closing (callsOf file shape) schedule log₀
+    (stateIn (shape .size) run₀ slots₀) i run slots log
 
 abbrev μ-loop : tie.MeasureT-loop
 μ-loop file shape schedule closing slots₀ log₀ run₀ idle i₀ slots log run i = length schedule - i
@@ -221,7 +222,8 @@ loop-again-2 c =
       l .inv .2,
       more t _ _ _
           (way-on (sizesIn (s .args .shape)) (s .pre .fit) (s .args .closing) (calls t) (calls-are t) (l .run) (l .slots) (l .log) (l .inv .3 .0 .sound)
-          (process t) (below-P t) (processIn (g .ready .result)) (g .ready .ensures) (sym (q .before .before .is-idle .ensures) ∙ q .before .if2 .left)
+          (process t) (below-P t) (processIn (g .ready .result)) (g .ready .ensures)
+          (sym (q .before .before .is-idle .ensures) ∙ q .before .if2 .left)
           _ (q .queue-of .ensures) (m .step-slots .result) _ (m .step-slots .ensures) (l .inv .3 .0 .becomes .whole)
           (d .process-after .result) (d .process-after .ensures) (sym (c .before .is-idle2 .ensures) ∙ not-so _ (c .if3 .taken))),
     )
@@ -302,7 +304,8 @@ loop-again-3 c =
       l .inv .2,
       more t _ _ _
           (way-ends (sizesIn (s .args .shape)) (s .pre .fit) (s .args .closing) (calls t) (calls-are t) (l .run) (l .slots) (l .log) (l .inv .3 .0 .sound)
-          (process t) (below-P t) (processIn (g .ready .result)) (g .ready .ensures) (sym (q .before .before .is-idle .ensures) ∙ q .before .if2 .left)
+          (process t) (below-P t) (processIn (g .ready .result)) (g .ready .ensures)
+          (sym (q .before .before .is-idle .ensures) ∙ q .before .if2 .left)
           _ (q .queue-of .ensures) (m .step-slots .result) _ (m .step-slots .ensures) (l .inv .3 .0 .becomes .whole)
           (d .process-after .result) (d .process-after .ensures) (o .result) _ (o .ensures)),
     )
@@ -320,7 +323,8 @@ add-run-5 c =
     omega (arith, l .inv .0, l .inv .3 .1, s .pre .few, c .if-so2 .ensures, no-more (s .args .closing) (length (s .args .schedule .now) - l .i))
 
 same-length : tie.Need-same-length Inv-loop μ-loop
-same-length c = c .before .before .before .loop .inv .1 ∙ sym (c .before .before .before .before .before .before .before .before .before .pre .all-slots)
+same-length c =
+    c .before .before .before .loop .inv .1 ∙ sym (c .before .before .before .before .before .before .before .before .before .pre .all-slots)
 
 same-length-2 : tie.Need-same-length-2 Inv-loop μ-loop
 same-length-2 c = along-length _ _ _ _ _ _ _ _ (c .before .before .before .loop .inv .3 .0)

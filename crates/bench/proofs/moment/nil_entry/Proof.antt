@@ -8,7 +8,8 @@ returns : tie.Need-returns
 returns c = rw (sym (c .before .before .is-take .ensures) ∙ c .before .if1 .taken, c .entry .ensures)
 
 returns-2 : tie.Need-returns-2
-returns-2 c = rw (sym (c .before .before .before .is-take .ensures) ∙ c .before .before .if1 .left, c .entry2 .ensures, c .before .nil-moment .ensures)
+returns-2 c =
+    rw (sym (c .before .before .before .is-take .ensures) ∙ c .before .before .if1 .left, c .entry2 .ensures, c .before .nil-moment .ensures)
 
 pub nil-entry-spec : {M : Type 1} → statement M
 nil-entry-spec =

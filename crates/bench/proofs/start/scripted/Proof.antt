@@ -19,7 +19,8 @@ returns : tie.Need-returns
 returns c =
     let s = c .before .before in
     let F = firstLengths (s .args .file .now) (s .args .processes) in
-    let e : s .args .next + c .share .result ≡ sum (take (suc (s .args .p)) F) = omega (arith, s .pre .0, c .share .ensures .0, sum-next F (s .args .p), ap (λ n. sum (take n F)) (add-one (s .args .p))) in
+    let e : s .args .next + c .share .result ≡ sum (take (suc (s .args .p)) F) =
+    omega (arith, s .pre .0, c .share .ensures .0, sum-next F (s .args .p), ap (λ n. sum (take n F)) (add-one (s .args .p))) in
     (λ i. waiting (s .pre .0 i) (e i), omega (arith, s .pre .1, c .share .ensures .1))
 
 pub scripted-spec : {M : Type 1} → statement M

@@ -8,8 +8,10 @@ use Rattle.bench.proofs.start.share.Tie as tie
 
 returns : tie.Need-returns
 returns c =
-    let a = c .before .before .before .before .args in
-    (c .u8-to-u16 .ensures .0 ∙ c .before .length-at .ensures ∙ share-there (a .file .now) (a .processes) (a .p) (c .before .before .if1 .taken), omega (arith, c .u8-to-u16 .ensures .1))
+    let a = c .before .before .before .before .args in (
+      c .u8-to-u16 .ensures .0 ∙ c .before .length-at .ensures ∙ share-there (a .file .now) (a .processes) (a .p) (c .before .before .if1 .taken),
+      omega (arith, c .u8-to-u16 .ensures .1),
+    )
 
 returns-2 : tie.Need-returns-2
 returns-2 c =

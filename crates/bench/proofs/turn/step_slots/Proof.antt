@@ -18,7 +18,8 @@ part-step-packed-end : tie.Need-part-step-packed-end
 part-step-packed-end c = let s = c .before in search (needs, row-in (s .args .size) (s .args .q) (s .pre .2) (s .pre .1))
 
 returns : tie.Need-returns
-returns c = let s = c .before .before .before .before .before in on-part _ _ _ _ _ _ _ _ (s .pre .0) (s .pre .1) (s .pre .2) (c .before .before .step-packed .ensures)
+returns c =
+    let s = c .before .before .before .before .before in on-part _ _ _ _ _ _ _ _ (s .pre .0) (s .pre .1) (s .pre .2) (c .before .before .step-packed .ensures)
 
 pub step-slots-spec : {M : Type 1} → statement M
 step-slots-spec =

@@ -32,7 +32,8 @@ returns-3 c = right (c .before .before) _ _ (c .enum-told3 .given .1) refl
 returns-4 : tie.Need-returns-4
 returns-4 c =
     let r = c .before in
-    right r (r .what-of .result) _ refl (uncounted (λ w. counts r ≡ countsAfter w (counts r)) refl refl refl refl (r .what-of .result) (c .match .keys4))
+    right r (r .what-of .result) _ refl
+    (uncounted (λ w. counts r ≡ countsAfter w (counts r)) refl refl refl refl (r .what-of .result) (c .match .keys4))
 
 pub counts-after-spec : {M : Type 1} → statement M
 counts-after-spec =

@@ -103,7 +103,8 @@ loop-again c =
     let r = read c in
     let l = loop-at r .loop in (
       omega (arith, below r),
-      first-next (breaks6 (fun r) (start r .args .slots)) (l .j) (start r .args .n) (below r) (sym (broken (c .before .before)) ∙ c .before .if1 .left)
+      first-next (breaks6 (fun r) (start r .args .slots)) (l .j) (start r .args .n) (below r)
+          (sym (broken (c .before .before)) ∙ c .before .if1 .left)
           ∙ l .inv .1,
       rw (c .counts-after .ensures) (told-of r .turn),
     )

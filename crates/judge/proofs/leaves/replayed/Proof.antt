@@ -64,7 +64,8 @@ loop-again c =
     let l = loop-at r .loop in
     let a = start r .args in (
       omega (arith, below r),
-      lying-other (entryAt (a .log .now)) (a .n) (a .keys .now) (a .count) (start r .pre .1) (a .queue) (l .row) (l .ends) (l .k) (below r) (l .inv .1)
+      lying-other (entryAt (a .log .now)) (a .n) (a .keys .now) (a .count) (start r .pre .1) (a .queue) (l .row) (l .ends) (l .k) (below r)
+          (l .inv .1)
           (r .entry .result) (is r) (c .if1 .taken),
     )
 

@@ -38,7 +38,8 @@ loop-again c =
     let l = c .before .before .before .before .before .before .before .loop in
     let is = c .before .before .before .before .before .entry .ensures in
     let told = c .before .repeats .ensures in
-    let push = sym (ap (λ (e : Entry). same Pushed (what e)) is) ∙ sym (c .before .before .before .before .pushed .ensures) ∙ c .before .before .before .if1 .taken in
+    let push = sym (ap (λ (e : Entry). same Pushed (what e)) is) ∙ sym (c .before .before .before .before .pushed .ensures)
+    ∙ c .before .before .before .if1 .taken in
     let new = ap (λ (e : Entry). marked (l .marks) (e .node)) (sym is) ∙ sym (told .0) ∙ c .if2 .left in
     let below = subst (λ (e : Entry). e .node < 65536) is (told .2) in (
       omega (arith, c .before .before .before .before .before .before .loop-test .taken),

@@ -50,14 +50,16 @@ got c = c .entry .result
 is : (c : Read) → got c ≡ fun c (indexAt (keys c) (at c))
 is c = c .entry .ensures
 
-told-of : (c : Read) → Told (fun c) (start c .args .n) (keys c) (start c .args .count) (start c .pre .1) (at c) (below c) (start c .args .watch) (start c .args .width)
+told-of : (c : Read)
+    → Told (fun c) (start c .args .n) (keys c) (start c .args .count) (start c .pre .1) (at c) (below c) (start c .args .watch) (start c .args .width)
     (loop-at c .loop .nodes) (loop-at c .loop .ends) (loop-at c .loop .c) (loop-at c .loop .inv .1) (start c .pre .3 .fits)
     (start c .pre .3 .small) (start c .pre .0) (got c)
 told-of c =
     let l = loop-at c .loop in
     let a = start c .args in
     let p = start c .pre in
-    told (fun c) (a .n) (keys c) (a .count) (p .1) (l .k) (below c) (a .watch) (a .width) (l .nodes) (l .ends) (l .c) (l .inv .1) (p .3 .fits) (p .3 .small)
+    told (fun c) (a .n) (keys c) (a .count) (p .1) (l .k) (below c) (a .watch) (a .width) (l .nodes) (l .ends) (l .c) (l .inv .1) (p .3 .fits)
+    (p .3 .small)
     (p .0) (got c) (is c)
 
 narrow : (c : Read) → start c .args .width ≤ 256
@@ -91,7 +93,8 @@ mul-j : tie.Need-mul-j Inv-loop μ-loop
 mul-j c = let p = c .before .before .before .before .before .pre in omega (arith, c .loop-test .taken, p .1 .few, p .3 .fits, p .3 .small)
 
 shared-slice-read-j : tie.Need-shared-slice-read-j Inv-loop μ-loop
-shared-slice-read-j c = let p = c .before .before .before .before .before .before .pre in omega (arith, c .before .loop-test .taken, p .1 .few, p .3 .keyed)
+shared-slice-read-j c =
+    let p = c .before .before .before .before .before .before .pre in omega (arith, c .before .loop-test .taken, p .1 .few, p .3 .keyed)
 
 entry-requires : tie.Need-entry-requires Inv-loop μ-loop
 entry-requires c κs =

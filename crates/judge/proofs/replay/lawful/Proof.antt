@@ -31,7 +31,8 @@ hi c = start c .args .row + hiOf (start c .args .ends)
 
 -- whether a call that did w is lawful
 abbrev by : Read → What → Bool
-by c w = let a = start c .args in lawful (newIn (a .nodes .now) (a .from) (a .count) (a .e .node)) w (a .e .node) (heldIn (nodes c) (a .row) (a .ends))
+by c w =
+    let a = start c .args in lawful (newIn (a .nodes .now) (a .from) (a .count) (a .e .node)) w (a .e .node) (heldIn (nodes c) (a .row) (a .ends))
 
 right : (c : Read) (w : What) (r : Bool) → c .what-of .result ≡ w → r ≡ by c w → r ≡ by c (what (start c .args .e))
 right c w r e h = h ∙ ap (by c) (sym e ∙ c .what-of .ensures)

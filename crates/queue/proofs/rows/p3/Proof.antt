@@ -10,7 +10,8 @@ use Rattle.queue.proofs.rows.p3.Tie as tie
 returns : tie.Need-returns
 returns c =
     let a = c .before .before .before .args in
-    c .leaves .ensures ∙ bottom-as (a .word) (c .before .before .wrapping-add-u16 .result) (a .b + 1) Done (c .before .before .wrapping-add-u16 .ensures)
+    c .leaves .ensures
+    ∙ bottom-as (a .word) (c .before .before .wrapping-add-u16 .result) (a .b + 1) Done (c .before .before .wrapping-add-u16 .ensures)
 
 pub p3-spec : {M : Type 1} → statement M
 p3-spec = tie.close (tie.spec (λ c κs. search needs) (λ c κs. search needs) returns)

@@ -17,4 +17,6 @@ returns-2 : tie.Need-returns-2
 returns-2 c = rw (sym (c .before .before .same-age .ensures) ∙ c .before .if1 .left) (c .leaves2 .ensures)
 
 pub t4-spec : {M : Type 1} → statement M
-t4-spec = tie.close (tie.spec (λ c κs. search needs) (λ c κs. search needs) (λ c κs. search needs) (λ c κs. search needs) (λ c κs. search needs) returns returns-2)
+t4-spec =
+    tie.close
+    (tie.spec (λ c κs. search needs) (λ c κs. search needs) (λ c κs. search needs) (λ c κs. search needs) (λ c κs. search needs) returns returns-2)

@@ -30,13 +30,15 @@ begun-requires c κs =
 returns : tie.Need-returns
 returns c =
     let a = c .before .before .before .before .before .before .args in
-    let t = taken (c .before .before .before .before .is-idle .result && ltb (a .of .next) (a .of .stop)) (a .closing) (c .before .before .if1 .taken) in
+    let t =
+    taken (c .before .before .before .before .is-idle .result && ltb (a .of .next) (a .of .stop)) (a .closing) (c .before .before .if1 .taken) in
     rw (t .1, ← c .before .before .before .before .is-idle .ensures, t .0, c .begun .ensures, c .before .call-in .ensures)
 
 returns-2 : tie.Need-returns-2
 returns-2 c =
     let a = c .before .before .before .before .args in
-    rw (← c .before .before .is-idle .ensures) (left (c .before .before .is-idle .result && ltb (a .of .next) (a .of .stop)) (a .closing) _ _ (c .if1 .left))
+    rw (← c .before .before .is-idle .ensures)
+    (left (c .before .before .is-idle .result && ltb (a .of .next) (a .of .stop)) (a .closing) _ _ (c .if1 .left))
 
 pub ready-spec : {M : Type 1} → statement M
 ready-spec =
