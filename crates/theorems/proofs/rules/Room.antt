@@ -34,7 +34,7 @@ use Rattle.runs.specs.inner.Sound.{isPush, isOwn, Sizes, Fit, processes, Sound,
 use Rattle.runs.proofs.Sound.{Fresh, Was, goes, begins, Steps, rowAt}
 use Rattle.theorems.proofs.queue.Content.{at}
 use Rattle.theorems.proofs.queue.Memory.{Memory, memoryAt, rowIn, asOwner, lim, first-lim, logAfter, log-after}
-use Rattle.theorems.proofs.queue.Inv.{AtOwner, Control}
+use Rattle.theorems.proofs.queue.Inv.{Control}
 use Rattle.theorems.proofs.queues.Whole.{Seat, seatOf, seat, Inv}
 use Rattle.theorems.proofs.queues.Assemble.{at-record}
 use Rattle.theorems.proofs.queues.Act.{as-own, own-ok, here, no-top, take, seats}
