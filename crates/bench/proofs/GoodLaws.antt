@@ -4,11 +4,11 @@ use mathlib.Core.Path.{_≡_, refl, sym, ap, _∙_, subst}
 use mathlib.Core.Bool.{Bool, true, false, cond}
 use mathlib.Core.List.{List, [], _∷_}
 use native.Mathlib.Omega.{arith}
-use lib.Dec.{ltb}
+use lib.Dec.{ltb, leb}
 use lib.ListN.{length, getD, take, drop, replicate, length-replicate, getD-replicate, length-drop, List·getD-eq-default}
 use lib.Seq.{ext-getD, getD-take, getD-drop, length-take-le}
 use native.Mathlib.Decide.{decLt}
-use borrow.Author.Tests.{le-ltb, lt-ltb}
+use borrow.Author.Tests.{le-ltb, lt-ltb, leb-true, leb-false}
 use Rattle.base.specs.Lists.{listOf}
 use Rattle.base.proofs.Lists.{listOf-getD}
 use Rattle.runfile.specs.Encode.{InRanges}
@@ -39,8 +39,9 @@ use Rattle.runs.proofs.Sound.{sound-fresh}
 use Rattle.runs.proofs.Scripts.{sizesOf, fit, start-fresh}
 use Rattle.runs.proofs.States.{sound}
 use Rattle.runs.specs.Promise.{Gives, Ran}
+use Rattle.records.specs.inner.Records.{Refuses}
 use Rattle.bench.specs.inner.Finish.{Finishes, Ends}
-use Rattle.runs.specs.Run.{Outcome, play, lowest, close, closed, closingSteps, tableSize, refusal, finished, outcome, runOf, closingStep, played}
+use Rattle.runs.specs.Run.{Outcome, play, lowest, close, closed, closingSteps, refusal, finished, outcome, runOf, closingStep, played}
 use Rattle.bench.proofs.RunLaws.{becomes-next, held-counted, sound-held}
 use Rattle.bench.proofs.WalkLaws.{bare, later, later-none, later-later, act-later, walk-plays}
 use Rattle.runs.specs.State.{Bench, Process, Queue, State, fresh, nobody, processAt, scripted, startBench, start}
@@ -103,9 +104,9 @@ closed-kept f = closed-keeps f Kept (turn-kept (f .width) (f .size) (f .calls)) 
 
 -- a refusal gives what is promised of it
 pub refusal-gives : (o : Outcome) (n : ℕ) (buffer : List ℕ) (written : ℕ) (report table : List ℕ) → o ≡ refusal n
-    → (written ≡ 0) × (report ≡ n ∷ 0 ∷ 0 ∷ 0 ∷ []) × (table ≡ replicate tableSize 0) → Gives o buffer written buffer report table
+    → Refuses n written report table → Gives o buffer written buffer report table
 refusal-gives o n buffer written report table e h =
-    subst (λ (x : Outcome). Gives x buffer written buffer report table) (sym e) (record { bytes = h .0; kept = refl; counts = h .1; queues = h .2 })
+    subst (λ (x : Outcome). Gives x buffer written buffer report table) (sym e) (record { bytes = h .bytes; kept = refl; counts = h .counts; queues = h .queues })
 
 room : (t k e : ℕ) {N M : ℕ} → t + k ≤ N → e ≡ 0 + k → N ≡ M → t + e ≤ M
 room t k e a b c = omega arith
@@ -288,19 +289,23 @@ module _ (s : List ℕ) (bytes : Bytes s) (shape : Shape) (e : readingOf (fileOf
               ap (outcome (length buffer)) is-good
               ∙ ap (λ (t : Bool). cond t (refusal 8) (finished f (closed f))) (le-ltb (length buffer) (5 + 12 * length (f .calls)) (omega arith))
 
-          pub gives-0 : (written : ℕ) (buffer′ report table : List ℕ) → 5 + 12 * shape .calls ≤ length log₀
+          pub gives-0 : (written : ℕ) (buffer′ report table : List ℕ) (roomy : Bool)
+              → roomy ≡ leb (5 + 12 * shape .calls) (length log₀) → roomy ≡ true
               → Finishes (shape .processes) C b₂ flat₂ log₂ written buffer′ report table → Ran s log₀ written buffer′ report table
-          gives-0 written buffer′ report table room h =
+          gives-0 written buffer′ report table roomy is t h =
               let all = ap (λ (x : Shape). x .calls) is-shape in
-              subst (λ (o : Outcome). Gives o log₀ written buffer′ report table) (sym (ran log₀ room))
+              let fits = leb-true (5 + 12 * shape .calls) (length log₀) (sym is ∙ t) in
+              subst (λ (o : Outcome). Gives o log₀ written buffer′ report table) (sym (ran log₀ fits))
               (finished-gives f (closed f) log₀ b₂ flat₂ log₂ written buffer′ report table
-              (subst (λ (x : Shape). Becomes (x .size) 0 log₀ (closed f) b₂ flat₂ log₂) is-shape becomes-closed) (omega (arith, entries-few))
+              (subst (λ (x : Shape). Becomes (x .size) 0 log₀ (closed f) b₂ flat₂ log₂) is-shape becomes-closed) (omega (arith, fits, entries-few))
               (subst (λ (x : Shape). Finishes (x .processes) (x .size) b₂ flat₂ log₂ written buffer′ report table) is-shape h))
 
-  pub gives-8 : (buffer : List ℕ) → length buffer < 5 + 12 * shape .calls → runOf s (length buffer) ≡ refusal 8
+  pub gives-8 : (buffer : List ℕ) (roomy : Bool) → roomy ≡ leb (5 + 12 * shape .calls) (length buffer) → roomy ≡ false
+      → runOf s (length buffer) ≡ refusal 8
   unfolding runOf outcome
-  gives-8 buffer short =
+  gives-8 buffer roomy is n =
       let all = ap (λ (x : Shape). x .calls) is-shape in
+      let short = leb-false (5 + 12 * shape .calls) (length buffer) (sym is ∙ n) in
       ap (outcome (length buffer)) is-good
       ∙ ap (λ (t : Bool). cond t (refusal 8) (finished f (closed f))) (lt-ltb (length buffer) (5 + 12 * length (f .calls)) (omega arith))
 

@@ -1,12 +1,10 @@
 // The bench: runs a file of scripts under its schedule, one shared access at a time.
 ghost use mathlib.Core.Path.{_≡_};
-ghost use mathlib.Core.List.{[], _∷_};
-ghost use lib.ListN.{length, replicate};
+ghost use lib.ListN.{length};
 ghost use denote.Ref.{ptr};
 ghost use Rattle.runfile.specs.File.{fileOf, readingOf};
 ghost use Rattle.runs.specs.Promise.{Ran, HandsBack};
 ghost use Rattle.bench.specs.inner.Finish.{Ends, Finishes};
-ghost use Rattle.runs.specs.Run.{tableSize};
 
 mod moment; // what a step ends, and its moment
 mod start; // eight fresh queues, and each process with its share of the calls
@@ -14,8 +12,11 @@ mod loops; // the schedule and the closing
 mod table; // the final table
 mod turn; // one step of a run, through the step of the queue
 
+pub use records::TABLE_SIZE;
 use log::Entry;
+use records::MOST_SLOTS;
 use records::Process;
+use records::refuse;
 use runfile::Reading;
 use runfile::Shape;
 use steps::PackedWord;
@@ -23,16 +24,8 @@ use steps::PackedWord;
 // The rounds of the closing at most: eight calls are half-done.
 const CLOSING_ROUNDS: u8 = 8;
 
-// C is at most this.
-const MOST_SLOTS: usize = 64;
-
 // The slots of all queues lie in one row, queue by queue: slot i of queue q at C × q + i.
 const ALL_SLOTS: usize = 8 * MOST_SLOTS;
-
-// The table has a row of bottom, top, tag and as many slots as C may be for each queue.
-const TABLE_ROW: usize = 3 + MOST_SLOTS;
-
-pub const TABLE_SIZE: usize = 8 * TABLE_ROW;
 
 // The state of a run, but for the slots, which lie in an array of their own, and the log, which lies in the buffer.
 pub struct Bench {
@@ -48,15 +41,6 @@ pub struct Bench {
 pub enum Ended {
     Nothing,
     Call(Entry),
-}
-
-// A refusal gives its number, zero counts, a zero table and an empty part.
-fn refuse(number: u8, report: &mut [u16; 4], table: &mut [u16; TABLE_SIZE]) -> usize
-    ensures { λ r. ⌜ (r ≡ 0) × (now (report .exit) ≡ number ∷ 0 ∷ 0 ∷ 0 ∷ []) × (now (table .exit) ≡ replicate tableSize 0) ⌝ }
-{
-    *report = [number as u16, 0, 0, 0];
-    *table = [0; TABLE_SIZE];
-    0
 }
 
 // Writes the head of the log before the entries in the buffer, the counts and the table.
@@ -75,7 +59,7 @@ fn finish(
     *report = [0, state.entries, state.steps, state.gone];
     let words = state.words;
     table::fill(table, shape.processes, shape.size, words, slots);
-    log::HEAD_LENGTH + log::ENTRY_LENGTH * (state.entries as usize)
+    log::length_of(state.entries)
 }
 
 // The run of a good file. Nothing is refused after its first step, so that the entries are written straight into the buffer.
@@ -89,8 +73,7 @@ fn run_good(
     requires { ⌜ readingOf (fileOf (now file)) ≡ Reading.Good shape ⌝ }
     ensures { λ r. ⌜ Ran (now (file .entry)) (now (buffer .entry)) r (now (buffer .exit)) (now (report .exit)) (now (table .exit)) ⌝ }
 {
-    let room = log::HEAD_LENGTH + log::ENTRY_LENGTH * (shape.calls as usize);
-    if buffer.len() < room {
+    if !log::has_room(buffer, shape.calls) {
         return refuse(8, report, table);
     }
     let mut slots = [0u16; ALL_SLOTS];

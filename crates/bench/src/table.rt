@@ -6,8 +6,8 @@ ghost use Rattle.base.specs.Bytes.{putAt};
 ghost use Rattle.base.specs.Lists.{listOf};
 ghost use Rattle.bench.specs.inner.Layout.{allSlots, slotsIn, wordsTable};
 ghost use Rattle.runs.specs.Run.{tableRow, tableSize};
-use crate::TABLE_ROW;
-use crate::TABLE_SIZE;
+use records::TABLE_ROW;
+use records::TABLE_SIZE;
 use steps::PackedWord;
 use word::Word;
 

@@ -36,7 +36,7 @@ pub(crate) fn step_slots(
 fn keep(log: &mut [u8], n: u16, over: Ended) -> u16
     ensures { λ r. ⌜ (now (log .exit) ≡ putEntries n (entriesIn (endedIn over)) (now (log .entry))) × (r ≡ length (entriesIn (endedIn over))) ⌝ }
 {
-    let at = log::HEAD_LENGTH + log::ENTRY_LENGTH * (n as usize);
+    let at = log::length_of(n);
     match over {
         Ended::Nothing => 0,
         Ended::Call(entry) => {

@@ -6,9 +6,9 @@ use Prim.Native.Nat.{ℕ, _^_, _≤_, _<_}
 use native.Mathlib.Decide.{decLt}
 use native.Mathlib.Omega.{arith}
 use lib.ListN.{length}
-use Rattle.range.specs.Range.{inRange}
+use Rattle.word.specs.Range.{inRange}
 use Rattle.word.specs.inner.InRange.{SizesIn, WordIn, StageIn, InRange}
-use Rattle.range.proofs.RangeLaws.{in-range, range-in}
+use Rattle.word.proofs.RangeLaws.{in-range, range-in}
 use Rattle.steps.specs.Step.{rowOf, loadedSlot, loaded, stored, steppedOn, stageAfter, resultOf as nextResult, StepOn}
 use Rattle.steps.proofs.StepLaws.{sixteen-in}
 use Rattle.desk.specs.Refusals.{OfB, OfAge, From, Refuses, width-high, size-low, size-high, slots-not-C, bottom-above, top-above, b-above}

@@ -1,8 +1,7 @@
 -- The desk: what it gives back for a stage lent with a word and slots, and the word and the slots after it. The step is the table's.
 use Rattle.base.specs.Words.{ℕ, cond, List, [], length, _≡_}
-use Rattle.range.specs.Range.{inRange}
 use Rattle.steps.specs.{Step.stored, Step.steppedOn, Step.stageAfter, Step.resultOf as nextResult, declared.Next.Next}
-use Rattle.word.specs.{declared.Word.Word, declared.Stage.Stage}
+use Rattle.word.specs.{Range.inRange, declared.Word.Word, declared.Stage.Stage}
 use Rattle.steps.specs.declared.Next.the-variants as next
 use Rattle.desk.specs.declared.Answer.{Answer}
 use Rattle.desk.specs.declared.Answer.the-variants.{Going, Done, Node, Nil, Lost, Full, Refused}

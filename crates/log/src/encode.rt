@@ -1,12 +1,31 @@
-// An entry and the head of a log, written into a buffer.
+// The length of a log, and an entry and the head of one, written into a buffer.
 ghost use mathlib.Core.Path.{_≡_};
+ghost use lib.Dec.{leb};
+ghost use lib.ListN.{length};
 ghost use Rattle.base.specs.Bytes.{putAt};
+ghost use Rattle.log.specs.Decode.{logLength};
 ghost use Rattle.log.specs.Encode.{entryBytes, headBytes};
+use crate::ENTRY_LENGTH;
 use crate::Entry;
+use crate::HEAD_LENGTH;
 use crate::SECTION_COUNT;
 use base::high;
 use base::low;
 use base::put;
+
+// The length of a log of so many entries, which is also where its next one would begin.
+pub fn length_of(entries: u16) -> usize
+    ensures { λ r. ⌜ r ≡ logLength entries ⌝ }
+{
+    HEAD_LENGTH + ENTRY_LENGTH * (entries as usize)
+}
+
+// Whether a buffer has room for a log of so many entries.
+pub fn has_room(buffer: &[u8], entries: u16) -> bool
+    ensures { λ r. ⌜ r ≡ leb (logLength entries) (length (now (buffer .entry))) ⌝ }
+{
+    length_of(entries) <= buffer.len()
+}
 
 // Puts the bytes before the entries: section 1, and how many entries follow.
 pub fn put_head(buffer: &mut [u8], processes: u8, slots: u8, entries: u16)

@@ -1,9 +1,11 @@
 // The log: an entry for each finished call, the numbers that stand there for what a call did, and both as bytes.
 mod decode; // what stands in a log's bytes
-mod encode; // an entry and the head, written
+mod encode; // a log's length; an entry and the head, written
 mod numbers; // what a call did, by kind and result
 
 pub use crate::decode::entry_at;
+pub use crate::encode::has_room;
+pub use crate::encode::length_of;
 pub use crate::encode::put_entry;
 pub use crate::encode::put_head;
 pub use crate::numbers::kind_of;

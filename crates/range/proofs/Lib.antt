@@ -1,3 +1,2 @@
--- The tests as facts on numbers, and back; and that the promise settles its answer.
-pub mod RangeLaws
+-- That the promise settles its answer.
 pub mod Settled

@@ -1,7 +1,7 @@
 // What can be stepped: document 01's conditions at the desk.
 ghost use mathlib.Core.Path.{_≡_};
 ghost use Rattle.word.specs.Tag.{isTag};
-ghost use Rattle.range.specs.Range.{sizesIn, ageIn, wordIn, takeIn, popIn, stageIn, inRange};
+ghost use Rattle.word.specs.Range.{sizesIn, ageIn, wordIn, takeIn, popIn, stageIn, inRange};
 use word::Stage;
 use word::Word;
 

@@ -1,8 +1,10 @@
 -- What the public functions promise settles their answers.
 use mathlib.Core.Path.{_≡_}
+use mathlib.Core.List.{List}
+use Prim.Native.Nat.{ℕ}
 use Rattle.base.proofs.Settled.{one-value}
 use Rattle.runs.specs.State.{Process}
-use Rattle.records.specs.inner.Records.{processIn}
+use Rattle.records.specs.inner.Records.{processIn, Refuses}
 use Rattle.records.specs.declared.Process.{Process as HeldProcess}
 
 -- of ready and process_after
@@ -20,3 +22,7 @@ record-is x r r′ p q = λ i. let e : Process = one-value p q i in record {
 -- of queue_of, gone_round, if_so, and of is_take and is_idle: each promises one value
 pub answer-is : {A : Type 0} (x r r′ : A) → r ≡ x → r′ ≡ x → r ≡ r′
 answer-is x r r′ = one-value
+
+pub refuses-once : (number w w′ : ℕ) (r r′ t t′ : List ℕ) → Refuses number w r t → Refuses number w′ r′ t′ → (w ≡ w′) × (r ≡ r′) × (t ≡ t′)
+refuses-once number w w′ r r′ t t′ a b =
+    (one-value (a .bytes) (b .bytes), one-value (a .counts) (b .counts), one-value (a .queues) (b .queues))

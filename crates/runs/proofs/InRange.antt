@@ -6,7 +6,7 @@ use mathlib.Core.List.{List, []}
 use native.Mathlib.Omega.{arith}
 use lib.Dec.{ltb}
 use lib.ListN.{length, getD}
-use Rattle.range.specs.Range.{inRange}
+use Rattle.word.specs.Range.{inRange}
 use Rattle.steps.specs.Step.{loadedSlot, loaded}
 use Rattle.base.proofs.Cases.{either-way, ever}
 use Rattle.steps.proofs.Below.{LoadsBelow, StoresBelow}

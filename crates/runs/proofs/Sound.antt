@@ -7,9 +7,9 @@ use native.Mathlib.Omega.{arith}
 use lib.Dec.{ltb}
 use lib.ListN.{length, getD, length-set, replicate, length-replicate, getD-replicate}
 use lib.Pow.{pow-pos}
-use Rattle.range.specs.Range.{inRange}
+use Rattle.word.specs.Range.{inRange}
 use Rattle.word.specs.inner.InRange.{WordIn, StageIn}
-use Rattle.range.proofs.RangeLaws.{range-in}
+use Rattle.word.proofs.RangeLaws.{range-in}
 use Rattle.word.specs.Stages.{isIdle}
 use Rattle.steps.specs.Step.{loadedSlot, loaded, stored}
 use Rattle.steps.proofs.StepLaws.{stays-in, StaysIn}

@@ -2,8 +2,7 @@
 use Rattle.base.specs.Words.{ℕ, zero, suc, _+_, _-_, _<_, _≤_, true, false, cond, _&&_, ltb, leb, eqb, List, [], _∷_, map, length, getD, take, _↔_, _≡_}
 use Rattle.base.specs.{Bytes.Bytes, Lists.All}
 use Rattle.log.specs.{Numbers.push, Numbers.bottomPop, Numbers.lost, declared.Entry.Entry}
-use Rattle.word.specs.{Stages.isIdle, declared.Stage.Stage, declared.Word.Word, declared.Stage.the-variants.T4}
-use Rattle.range.specs.Range.{inRange}
+use Rattle.word.specs.{Range.inRange, Stages.isIdle, declared.Stage.Stage, declared.Word.Word, declared.Stage.the-variants.T4}
 use Rattle.steps.specs.Step.{sameAge, loadedSlot}
 use Rattle.steps.specs.declared.Load.the-variants as load
 use Rattle.steps.specs.declared.Store.the-variants as store

@@ -1,7 +1,6 @@
 -- Top and tag in one word, and all slots in one row: every step, log and count is as in the layout before, and the desk shows the same numbers.
 use Rattle.base.specs.Words.{ℕ, _<_, true, List, length, take, _≡_}
-use Rattle.word.specs.{declared.Word.Word, declared.Stage.Stage}
-use Rattle.range.specs.Range.{inRange}
+use Rattle.word.specs.{Range.inRange, declared.Word.Word, declared.Stage.Stage}
 use Rattle.steps.specs.{Step.stored, Step.steppedOn, declared.Stepped.Stepped, declared.PackedWord.PackedWord, declared.PackedStep.PackedStep}
 use Rattle.steps.specs.Packed.{packed, packedWord, unpacked, unpackedStep, StepPacked}
 use Rattle.desk.specs.Desk.{answerOf, AtDesk}

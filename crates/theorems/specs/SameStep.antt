@@ -1,7 +1,6 @@
 -- The run's step and the desk's are the same: both are `steppedOn`, on the queue's word and slots and the process's stage.
 use Rattle.base.specs.Words.{ℕ, _<_, true, List, [], _∷_, length, getD, _⊎_, _≡_}
-use Rattle.word.specs.{declared.Stage.Stage, declared.Word.Word}
-use Rattle.range.specs.Range.{inRange}
+use Rattle.word.specs.{Range.inRange, declared.Stage.Stage, declared.Word.Word}
 use Rattle.steps.specs.{Step.stored, Step.steppedOn, Step.stageAfter, declared.Next.Next, declared.Stepped.Stepped}
 use Rattle.desk.specs.{Desk.answerOf, Desk.resultOf, Desk.AtDesk, declared.Answer.Answer}
 use Rattle.runs.specs.Moment.{queueOf, Ended, Nothing, ends, ended}

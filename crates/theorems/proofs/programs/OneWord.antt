@@ -1,7 +1,7 @@
 -- Top and tag in one word: the three theorems.
 use mathlib.Core.Path.{refl, ap, _∙_}
 use lib.ListN.{length}
-use Rattle.range.proofs.RangeLaws.{in-range}
+use Rattle.word.proofs.RangeLaws.{in-range}
 use Rattle.steps.specs.Step.{loaded, loadedSlot}
 use Rattle.steps.specs.Packed.{packed, packedWord, unpacked, unpackedStep}
 use Rattle.steps.specs.declared.Stepped.{Stepped}

@@ -10,9 +10,9 @@ use lib.ListN.{length, getD, set, drop, List·getD-map}
 use lib.Seq.{slice, slice-cons, slice-empty, set-getD}
 use Rattle.desk.specs.Desk.{answerOf, numberOf, stageOf, deskAnswer, deskWord, deskSlots}
 use Rattle.desk.proofs.DeskLaws.{number-told, stage-told, row-done}
-use Rattle.range.specs.Range.{inRange}
+use Rattle.word.specs.Range.{inRange}
 use Rattle.word.specs.inner.InRange.{StageIn}
-use Rattle.range.proofs.RangeLaws.{range-in}
+use Rattle.word.proofs.RangeLaws.{range-in}
 use Rattle.word.specs.Stages.{isIdle}
 use Rattle.steps.specs.Step.{rowOf, loadedSlot, loaded, stored, stageAfter}
 use Rattle.word.specs.declared.Stage.{Stage}

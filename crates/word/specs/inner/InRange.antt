@@ -1,4 +1,4 @@
--- What it is to be in range, as facts on numbers: the rows of the table ask for them, and `inRange` of crate `range` tests them.
+-- What it is to be in range, as facts on numbers: the rows of the table ask for them, and `inRange` tests them.
 use mathlib.Core.Path.{_≡_}
 use Prim.Native.Nat.{ℕ, _^_, _≤_, _<_}
 use Rattle.word.specs.declared.Word.{Word}

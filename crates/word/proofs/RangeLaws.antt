@@ -3,11 +3,11 @@ use mathlib.Core.Path.{_≡_, refl}
 use mathlib.Core.Bool.{Bool, true, _&&_, and-eq-true-iff}
 use Prim.Native.Nat.{ℕ, _^_, _≤_, _<_}
 use borrow.Author.Tests.{ltb-true, leb-true, eqb-true, lt-ltb, le-leb, eq-eqb}
-use Rattle.range.specs.Range.{sizesIn, ageIn, takeIn, popIn, stageIn, inRange}
+use Rattle.word.specs.Range.{sizesIn, ageIn, takeIn, popIn, stageIn, inRange}
 use Rattle.word.specs.inner.InRange.{SizesIn, StageIn, InRange}
 use Rattle.word.specs.declared.Word.{Word}
 use Rattle.word.specs.declared.Stage.{Stage}
 use Rattle.word.specs.declared.Stage.the-variants.{Idle, P1, P2, P3, T1, T2, T3, T4, B1, B2, B3, B4, B5, B6, B7}
 
 parts : {a b : Bool} → (a && b) ≡ true → (a ≡ true) × (b ≡ true)
 parts {a} {b} = and-eq-true-iff a b .0

@@ -1,2 +1,0 @@
--- What can be stepped: document 01's conditions at the desk.
-pub mod Range
