@@ -20,7 +20,7 @@ use Rattle.steps.specs.declared.PackedStep.{PackedStep}
 use Rattle.steps.specs.declared.PackedWord.{PackedWord}
 use Rattle.steps.specs.declared.Store.{Store}
 use Rattle.steps.specs.declared.Store.the-variants as store
-use Rattle.records.specs.inner.Records.{processIn}
+use Rattle.records.specs.inner.Records.{processIn, slotsPlace}
 use Rattle.bench.specs.inner.Layout.{freshHeld, idleHeld, queueIn, recordIn, benchIn, slotsOf, slotsIn, StepsIn, putEntries}
 use Rattle.runs.specs.State.{Process, Queue, fresh, nobody, queueAt, processAt}
 use Rattle.runs.specs.inner.Counted.{Counted}
@@ -118,9 +118,9 @@ module _ (W C : ℕ) (w : PackedWord) (flat : List ℕ) (q : ℕ) (z : Stage) (r
   stored-length xs store.Nothing = refl
   stored-length xs (store.Slot at node) = length-set xs at node
 
-  pub on-part : (row : List ℕ) → length flat ≡ 512 → q < 8 → C ≤ 64 → StepPacked W C w (take (C * q + C - C * q) (drop (C * q) flat)) z r row
+  on-place : (row : List ℕ) → length flat ≡ 512 → q < 8 → C ≤ 64 → StepPacked W C w (take (C * q + C - C * q) (drop (C * q) flat)) z r row
       → StepsIn W C w flat q z r (putMid (C * q) (C * q + C - C * q) flat row)
-  on-part row whole h small d =
+  on-place row whole h small d =
       let e : C * q + C - C * q ≡ C = omega arith in
       let t : StepPacked W C w (slotsOf C flat q) z r row = subst (λ (n : ℕ). StepPacked W C w (take n (drop (C * q) flat)) z r row) e d in
       let k : row ≡ stored (slotsOf C flat q) (r .store) = t .unpacks .kept
@@ -131,6 +131,12 @@ module _ (W C : ℕ) (w : PackedWord) (flat : List ℕ) (q : ℕ) (z : Stage) (r
         slots =
             rw (e, slots-get C flat q h) (slots-put C q flat row whole small h (ap length k ∙ l ∙ slots-length C flat q (omega (arith, row-in C q small h))) ∙ ap (set (slotsIn C flat) q) k);
       }
+
+  pub on-part : (row : List ℕ) (from : ℕ) → from ≡ slotsPlace C q → length flat ≡ 512 → q < 8 → C ≤ 64
+      → StepPacked W C w (take (from + C - from) (drop from flat)) z r row → StepsIn W C w flat q z r (putMid from (from + C - from) flat row)
+  on-part row from is whole h small =
+      subst (λ (n : ℕ). StepPacked W C w (take (n + C - n) (drop n flat)) z r row → StepsIn W C w flat q z r (putMid n (n + C - n) flat row))
+      (sym is) (on-place row whole h small)
 
 -- entries put into a log, in two parts
 pub put-append : (n : ℕ) (es ds : List Entry) (log : List ℕ) → putEntries n (es ++ ds) log ≡ putEntries (n + length es) ds (putEntries n es log)

@@ -14,6 +14,7 @@ use Rattle.base.proofs.Lists.{listOf-length, listOf-getD}
 use Rattle.word.specs.declared.Word.{Word}
 use Rattle.runfile.specs.File.{lengthAt, firstLengths}
 use Rattle.runs.specs.Run.{tableRow, inTable}
+use Rattle.records.specs.inner.Records.{slotsPlace}
 use Rattle.bench.specs.inner.Layout.{slotsOf, slotsIn}
 use Rattle.bench.proofs.LayoutLaws.{slots-get}
 
@@ -131,12 +132,14 @@ module _ (w : ℕ → Word) (slots : List (List ℕ)) where
     }
 
 -- the slots of queue q in the row of all slots
-module _ (C : ℕ) (flat : List ℕ) (q : ℕ) where
-  part-is : take (C * q + C - C * q) (drop (C * q) flat) ≡ slotsOf C flat q
-  part-is = let e : C * q + C - C * q ≡ C = omega arith in ap (λ (n : ℕ). take n (drop (C * q) flat)) e
+module _ (C : ℕ) (flat : List ℕ) (q from : ℕ) (is : from ≡ slotsPlace C q) where
+  part-is : take (from + C - from) (drop from flat) ≡ slotsOf C flat q
+  part-is =
+      let e : from + C - from ≡ C = omega arith in
+      ap (λ (n : ℕ). take n (drop from flat)) e ∙ ap (λ (n : ℕ). take C (drop n flat)) is
 
-  pub part-slots : q < 8 → take (C * q + C - C * q) (drop (C * q) flat) ≡ getD (slotsIn C flat) q []
+  pub part-slots : q < 8 → take (from + C - from) (drop from flat) ≡ getD (slotsIn C flat) q []
   part-slots h = part-is ∙ sym (slots-get C flat q h)
 
-  pub part-small : C ≤ 64 → length (take (C * q + C - C * q) (drop (C * q) flat)) ≤ 64
-  part-small h = omega (arith, ap length part-is, length-take C (drop (C * q) flat))
+  pub part-small : C ≤ 64 → length (take (from + C - from) (drop from flat)) ≤ 64
+  part-small h = omega (arith, ap length part-is, length-take C (drop (slotsPlace C q) flat))

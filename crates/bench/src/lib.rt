@@ -12,10 +12,10 @@ mod loops; // the schedule and the closing
 mod table; // the final table
 mod turn; // one step of a run, through the step of the queue
 
-pub use records::TABLE_SIZE;
 use log::Entry;
-use records::MOST_SLOTS;
+use records::ALL_SLOTS;
 use records::Process;
+pub use records::TABLE_SIZE;
 use records::refuse;
 use runfile::Reading;
 use runfile::Shape;
@@ -23,9 +23,6 @@ use steps::PackedWord;
 
 // The rounds of the closing at most: eight calls are half-done.
 const CLOSING_ROUNDS: u8 = 8;
-
-// The slots of all queues lie in one row, queue by queue: slot i of queue q at C × q + i.
-const ALL_SLOTS: usize = 8 * MOST_SLOTS;
 
 // The state of a run, but for the slots, which lie in an array of their own, and the log, which lies in the buffer.
 pub struct Bench {

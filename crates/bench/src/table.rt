@@ -8,6 +8,7 @@ ghost use Rattle.bench.specs.inner.Layout.{allSlots, slotsIn, wordsTable
 ghost use Rattle.runs.specs.Run.{tableRow, tableSize};
 use records::TABLE_ROW;
 use records::TABLE_SIZE;
+use records::slots_place;
 use steps::PackedWord;
 use word::Word;
 
@@ -34,13 +35,13 @@ pub(crate) fn fill(
     ensures { λ _. ⌜ now (table .exit) ≡ listOf tableSize (wordsTable processes words (slotsIn size (now (slots .entry)))) ⌝ }
 {
     *table = [0; TABLE_SIZE];
-    let stride = size as usize;
-    let mut q: usize = 0;
-    while q < processes as usize {
-        let word = words[q];
-        let from = stride * q;
-        let to = from + stride;
-        put_row(table, TABLE_ROW * q, word.unpacked(), &slots[from..to]);
+    let mut q: u8 = 0;
+    while q < processes {
+        let on = q as usize;
+        let word = words[on];
+        let from = slots_place(size, q);
+        let to = from + size as usize;
+        put_row(table, TABLE_ROW * on, word.unpacked(), &slots[from..to]);
         q = q + 1;
     }
 }

@@ -10,6 +10,7 @@ use crate::moment;
 use records::Process;
 use records::gone_round;
 use records::if_so;
+use records::slots_place;
 use steps::PackedStep;
 use steps::PackedWord;
 
@@ -26,9 +27,8 @@ pub(crate) fn step_slots(
     ensures { λ r. ⌜ StepsIn width size word (now (slots .entry)) q (of .stage) r (now (slots .exit)) ⌝ }
 {
     let stage = of.stage;
-    let stride = size as usize;
-    let from = stride * (q as usize);
-    let to = from + stride;
+    let from = slots_place(size, q);
+    let to = from + size as usize;
     queue::step_packed(width, size, word, &mut slots[from..to], stage)
 }
 

@@ -5,11 +5,10 @@ use crate::ENTRY_LENGTH;
 use crate::Entry;
 use crate::HEAD_LENGTH;
 use base::byte_at;
-use base::joined;
 use base::number_at;
 
-// An entry whose twelve bytes may not all be there.
-fn cut_entry(bytes: &[u8]) -> Entry
+// The entry whose twelve bytes stand in front.
+fn first_entry(bytes: &[u8]) -> Entry
     ensures { λ r. ⌜ r ≡ firstEntry (now (bytes .entry)) ⌝ }
 {
     Entry {
@@ -21,25 +20,6 @@ fn cut_entry(bytes: &[u8]) -> Entry
         start: number_at(bytes, 6),
         end: number_at(bytes, 8),
         moment: number_at(bytes, 10),
-    }
-}
-
-// The entry whose twelve bytes stand in front; one that is whole is read without tests.
-fn first_entry(bytes: &[u8]) -> Entry
-    ensures { λ r. ⌜ r ≡ firstEntry (now (bytes .entry)) ⌝ }
-{
-    if bytes.len() < ENTRY_LENGTH {
-        return cut_entry(bytes);
-    }
-    Entry {
-        process: bytes[0],
-        queue: bytes[1],
-        kind: bytes[2],
-        result: bytes[3],
-        node: joined(bytes[4], bytes[5]),
-        start: joined(bytes[6], bytes[7]),
-        end: joined(bytes[8], bytes[9]),
-        moment: joined(bytes[10], bytes[11]),
     }
 }
 

@@ -19,7 +19,7 @@ record-is x r r′ p q = λ i. let e : Process = one-value p q i in record {
   «resets_at_t1» = e .resetsAtT1;
 }
 
--- of queue_of, gone_round, if_so, and of is_take and is_idle: each promises one value
+-- of queue_of, gone_round, if_so, slots_place, and of is_take and is_idle: each promises one value
 pub answer-is : {A : Type 0} (x r r′ : A) → r ≡ x → r′ ≡ x → r ≡ r′
 answer-is x r r′ = one-value
 

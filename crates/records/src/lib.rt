@@ -1,8 +1,10 @@
-// The record of a process in the bench, before and after its step; and what a run that is refused records.
+// What the bench keeps of a run: the record of a process, before and after its step, where slots lie, and what a refused file gives.
 mod refusal; // what a refused file gives
+mod slots; // where the slots of a queue lie
 mod turn; // a process before and after its step
 
 pub use crate::refusal::refuse;
+pub use crate::slots::slots_place;
 pub use crate::turn::gone_round;
 pub use crate::turn::if_so;
 pub use crate::turn::is_take;
@@ -13,7 +15,10 @@ use runfile::Call;
 use word::Stage;
 
 // C is at most this.
-pub const MOST_SLOTS: usize = 64;
+const MOST_SLOTS: usize = 64;
+
+// The slots of all queues lie in one row, queue by queue: slot i of queue q at C × q + i.
+pub const ALL_SLOTS: usize = 8 * MOST_SLOTS;
 
 // The table has a row of bottom, top, tag and as many slots as C may be for each queue.
 pub const TABLE_ROW: usize = 3 + MOST_SLOTS;

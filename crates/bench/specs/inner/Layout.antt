@@ -31,7 +31,7 @@ use Rattle.runs.specs.Turn.{entriesIn}
 use Rattle.bench.specs.declared.Bench.{Bench as HeldBench}
 use Rattle.bench.specs.declared.Ended.{Ended as HeldEnded}
 use Rattle.bench.specs.declared.Ended.the-variants as held
-use Rattle.records.specs.inner.Records.{processIn}
+use Rattle.records.specs.inner.Records.{processIn, slotsPlace}
 use Rattle.records.specs.declared.Process.{Process as HeldProcess}
 use Rattle.bench.specs.declared.turn.Told.{Told}
 
@@ -69,9 +69,9 @@ pub record Whole (b : HeldBench) : Type 0 where
 abbrev pub allSlots : ℕ
 allSlots = queueCount * mostSize
 
--- slot i of queue q stands at C × q + i
+-- the slots of queue q
 abbrev pub slotsOf : ℕ → List ℕ → ℕ → List ℕ
-slotsOf C flat q = take C (drop (C * q) flat)
+slotsOf C flat q = take C (drop (slotsPlace C q) flat)
 
 abbrev pub slotsIn : ℕ → List ℕ → List (List ℕ)
 slotsIn C flat = listOf queueCount (slotsOf C flat)

@@ -1,31 +1,37 @@
 -- `turn::step_slots` meets its contract.
+use Prim.Native.Nat.{_+_, _≤_}
 use native.Mathlib.Omega.{arith}
 use borrow.Author.Needs.{needs}
 use Rattle.bench.proofs.LayoutLaws.{row-in, on-part}
 use Rattle.bench.proofs.turn.step_slots.Statement.{statement}
 use Rattle.bench.proofs.turn.step_slots.Tie as tie
 
-mul-from : tie.Need-mul-from
-mul-from c = let s = c .before in omega (arith, row-in (s .args .size) (s .args .q) (s .pre .2) (s .pre .1))
+-- where the place is known: the queue's slots stand in the row
+within : (c : tie.After-slots-place) → c .slots-place .result + c .before .before .args .size ≤ 512
+within c =
+    let s = c .before .before in
+    omega (arith, c .slots-place .ensures, row-in (s .args .size) (s .args .q) (s .pre .2) (s .pre .1))
 
 add-to : tie.Need-add-to
-add-to c = let s = c .before in omega (arith, row-in (s .args .size) (s .args .q) (s .pre .2) (s .pre .1))
+add-to c = omega (arith, within c)
 
 mul-step-packed : tie.Need-mul-step-packed
-mul-step-packed c = let s = c .before in omega (arith, row-in (s .args .size) (s .args .q) (s .pre .2) (s .pre .1))
+mul-step-packed c = omega (arith, within c)
 
 part-step-packed-end : tie.Need-part-step-packed-end
-part-step-packed-end c = let s = c .before in search (needs, row-in (s .args .size) (s .args .q) (s .pre .2) (s .pre .1))
+part-step-packed-end c = omega (arith, within c, c .before .before .pre .0)
 
 returns : tie.Need-returns
 returns c =
-    let s = c .before .before .before .before .before in on-part _ _ _ _ _ _ _ _ (s .pre .0) (s .pre .1) (s .pre .2) (c .before .before .step-packed .ensures)
+    let p = c .before .before .before .before in
+    let s = p .before .before in
+    on-part _ _ _ _ _ _ _ _ _ (p .slots-place .ensures) (s .pre .0) (s .pre .1) (s .pre .2) (c .before .before .step-packed .ensures)
 
 pub step-slots-spec : {M : Type 1} → statement M
 step-slots-spec =
     tie.close
     (tie.spec
-    mul-from
+    (λ c κs. search needs)
     add-to
     mul-step-packed
     (λ c. search needs)
