@@ -13,46 +13,20 @@ use Rattle.steps.specs.Step.{rowOf, loadedSlot, loaded, stored, steppedOn, stag
 use Rattle.steps.proofs.StepLaws.{sixteen-in}
 use Rattle.desk.specs.Refusals.{OfB, OfAge, From, Refuses, width-high, size-low, size-high, slots-not-C, bottom-above, top-above, b-above}
 use Rattle.desk.specs.Refusals.{t-above, word-tag, stage-tag, push-b, take-t, pop-b}
-use Rattle.desk.specs.Desk.{answerOf, numberOf, stageOf, resultOf, deskAnswer, deskWord, deskSlots, AtDesk}
+use Rattle.desk.specs.Desk.{numberOf, stageOf, resultOf, deskAnswer, deskWord, deskSlots, AtDesk}
 use Rattle.word.specs.declared.Word.{Word}
 use Rattle.word.specs.declared.Stage.{Stage}
 use Rattle.word.specs.declared.Stage.the-variants.{Idle, P1, P2, P3, T1, T2, T3, T4, B1, B2, B3, B4, B5, B6, B7}
-use Rattle.steps.specs.declared.Next.{Next}
-use Rattle.steps.specs.declared.Next.the-variants as next
-use Rattle.steps.specs.declared.Stepped.{Stepped}
+use Rattle.steps.specs.declared.Next.the-variants.{Going}
+use Rattle.steps.specs.declared.Stepped.{Stepped as Step}
 use Rattle.desk.specs.declared.Answer.{Answer}
-use Rattle.desk.specs.declared.Answer.the-variants.{Going, Refused}
-
--- the desk's values of an answer that is no refusal are the step's
-pub number-told : (n : Next) → numberOf (answerOf n) ≡ 0
-number-told (next.Going z) = refl
-number-told next.Done = refl
-number-told (next.Node x) = refl
-number-told next.Nil = refl
-number-told next.Lost = refl
-number-told next.Full = refl
-
-pub stage-told : (n : Next) → stageOf (answerOf n) ≡ stageAfter n
-stage-told (next.Going z) = refl
-stage-told next.Done = refl
-stage-told (next.Node x) = refl
-stage-told next.Nil = refl
-stage-told next.Lost = refl
-stage-told next.Full = refl
-
-result-told : (n : Next) → resultOf (answerOf n) ≡ nextResult n
-result-told (next.Going z) = refl
-result-told next.Done = refl
-result-told (next.Node x) = refl
-result-told next.Nil = refl
-result-told next.Lost = refl
-result-told next.Full = refl
+use Rattle.desk.specs.declared.Answer.the-variants.{Stepped, Refused}
 
 module _ (W C : ℕ) (w : Word) (slots : List ℕ) (s : Stage) where
   -- in range the desk does the table's row
   pub row-done : inRange W C (length slots) w s ≡ true →
       let r = rowOf W C w (loaded slots (loadedSlot s)) s in
-      (deskAnswer W C w slots s ≡ answerOf (r .next)) × (deskWord W C w slots s ≡ r .word) × (deskSlots W C w slots s ≡ stored slots (r .store))
+      (deskAnswer W C w slots s ≡ Stepped (r .next)) × (deskWord W C w slots s ≡ r .word) × (deskSlots W C w slots s ≡ stored slots (r .store))
   row-done e = rw e (refl, refl, refl)
 
   -- a refusal gives the stage back as lent, and keeps the word and the slots
@@ -61,19 +35,19 @@ module _ (W C : ℕ) (w : Word) (slots : List ℕ) (s : Stage) where
   refused-keeps e = rw e (refl, refl, refl)
 
   -- the promise of a step in range, from the one of `step_on`
-  pub at-desk : (after : List ℕ) (r : Stepped) (answer : Answer) → inRange W C (length slots) w s ≡ true → StepOn W C w slots s r after
-      → answer ≡ answerOf (r .next)
+  pub at-desk : (after : List ℕ) (r : Step) (answer : Answer) → inRange W C (length slots) w s ≡ true → StepOn W C w slots s r after
+      → answer ≡ Stepped (r .next)
       → AtDesk W C w slots s answer (r .word) after
   at-desk after r answer e h d =
       let o = steppedOn W C w slots s in
       let k : r ≡ o = h .stepped ∙ sixteen-in W C (length slots) w (loaded slots (loadedSlot s)) s (in-range W C (length slots) w s e) in
-      let a : answer ≡ answerOf (o .next) = d ∙ ap (λ (z : Stepped). answerOf (z .next)) k in
+      let a : answer ≡ Stepped (o .next) = d ∙ ap (λ (z : Step). Stepped (z .next)) k in
       record {
         answered = rw e a;
-        numbered = rw e (ap numberOf a ∙ number-told (o .next));
-        staged = rw e (ap stageOf a ∙ stage-told (o .next));
-        resulted = rw e (ap resultOf a ∙ result-told (o .next));
-        altered = rw e (ap (λ (z : Stepped). z .word) k);
+        numbered = rw e (ap numberOf a);
+        staged = rw e (ap stageOf a);
+        resulted = rw e (ap resultOf a);
+        altered = rw e (ap (λ (z : Step). z .word) k);
         kept = rw e (h .kept);
       }
 
@@ -90,7 +64,7 @@ module _ (W C : ℕ) (w : Word) (slots : List ℕ) (s : Stage) where
 
 -- an idle stage is a step that alters nothing
 pub idle-keeps : (W C : ℕ) (w : Word) (slots : List ℕ) → inRange W C (length slots) w Idle ≡ true →
-    (deskAnswer W C w slots Idle ≡ Going Idle) × (deskWord W C w slots Idle ≡ w) × (deskSlots W C w slots Idle ≡ slots)
+    (deskAnswer W C w slots Idle ≡ Stepped (Going Idle)) × (deskWord W C w slots Idle ≡ w) × (deskSlots W C w slots Idle ≡ slots)
 idle-keeps W C w slots e = row-done W C w slots Idle e
 
 -- none of the list is so of a stage in range

@@ -1,39 +1,18 @@
 -- The desk: what it gives back for a stage lent with a word and slots, and the word and the slots after it. The step is the table's.
 use Rattle.base.specs.Words.{ℕ, cond, List, [], length, _≡_}
-use Rattle.steps.specs.{Step.stored, Step.steppedOn, Step.stageAfter, Step.resultOf as nextResult, declared.Next.Next}
+use Rattle.steps.specs.{Step.stored, Step.steppedOn, Step.stageAfter, Step.resultOf as nextResult, declared.Next.Next, declared.Next.the-variants.Going}
 use Rattle.word.specs.{Range.inRange, declared.Word.Word, declared.Stage.Stage}
-use Rattle.steps.specs.declared.Next.the-variants as next
-use Rattle.desk.specs.declared.Answer.{Answer}
-use Rattle.desk.specs.declared.Answer.the-variants.{Going, Done, Node, Nil, Lost, Full, Refused}
-
--- what follows the step of the table, as the desk's answer
-abbrev pub answerOf : Next → Answer
-answerOf (next.Going z) = Going z
-answerOf next.Done = Done
-answerOf (next.Node x) = Node x
-answerOf next.Nil = Nil
-answerOf next.Lost = Lost
-answerOf next.Full = Full
+use Rattle.desk.specs.{declared.Answer.Answer, declared.Answer.the-variants.Stepped, declared.Answer.the-variants.Refused}
 
 -- document 01's number for an answer
 abbrev pub numberOf : Answer → ℕ
-numberOf (Going z) = 0
-numberOf Done = 0
-numberOf (Node x) = 0
-numberOf Nil = 0
-numberOf Lost = 0
-numberOf Full = 0
+numberOf (Stepped next) = 0
 numberOf (Refused s) = 10
 
 -- what an answer says, in the words of the table; a refusal leaves the process at the stage that was lent
 abbrev pub nextIn : Answer → Next
-nextIn (Going z) = next.Going z
-nextIn Done = next.Done
-nextIn (Node x) = next.Node x
-nextIn Nil = next.Nil
-nextIn Lost = next.Lost
-nextIn Full = next.Full
-nextIn (Refused s) = next.Going s
+nextIn (Stepped next) = next
+nextIn (Refused s) = Going s
 
 -- where the process stands after it; and of a call that ended, its result and its node as in the log
 abbrev pub stageOf : Answer → Stage
@@ -44,7 +23,7 @@ resultOf a = nextResult (nextIn a)
 
 -- the table's step where it is in range; else a refusal, which alters nothing and gives the stage back as lent
 abbrev pub deskAnswer : ℕ → ℕ → Word → List ℕ → Stage → Answer
-deskAnswer W C w slots s = cond (inRange W C (length slots) w s) (answerOf (steppedOn W C w slots s .next)) (Refused s)
+deskAnswer W C w slots s = cond (inRange W C (length slots) w s) (Stepped (steppedOn W C w slots s .next)) (Refused s)
 
 abbrev pub deskWord : ℕ → ℕ → Word → List ℕ → Stage → Word
 deskWord W C w slots s = cond (inRange W C (length slots) w s) (steppedOn W C w slots s .word) w

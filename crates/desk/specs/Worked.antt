@@ -1,7 +1,9 @@
 -- Steps at the desk, computed: K1 by hand, K4's tag that goes round and K5's that does not, tags of 16 bits, and each refusal of document 01's list.
 use Rattle.base.specs.Words.{ℕ, List, [], _∷_, map, replicate, _≡_, refl}
-use Rattle.desk.specs.{Desk.numberOf, Desk.stageOf, Desk.resultOf, Desk.deskAnswer, Desk.deskWord, Desk.deskSlots, declared.Answer.Answer}
-use Rattle.desk.specs.declared.Answer.the-variants.{Going, Done, Node, Nil, Lost, Full, Refused}
+use Rattle.desk.specs.{declared.Answer.Answer, declared.Answer.the-variants.Stepped, declared.Answer.the-variants.Refused}
+use Rattle.desk.specs.Desk.{numberOf, stageOf, resultOf, deskAnswer, deskWord, deskSlots}
+use Rattle.steps.specs.{declared.Next.Next, declared.Next.the-variants.Going, declared.Next.the-variants.Done, declared.Next.the-variants.Node}
+use Rattle.steps.specs.declared.Next.the-variants.{Nil, Lost, Full}
 use Rattle.word.specs.{Worked.word, declared.Word.Word, declared.Stage.Stage}
 use Rattle.word.specs.declared.Stage.the-variants.{Idle, P1, P2, P3, T1, T2, T3, T4, B1, B2, B3, B4, B5, B6, B7}
 
@@ -9,16 +11,19 @@ use Rattle.word.specs.declared.Stage.the-variants.{Idle, P1, P2, P3, T1, T2, T3
 abbrev After : Type 0
 After = Answer × Word × List ℕ
 
--- the desk at W and C, lent a word, slots and a stage, gives an answer and leaves a word and slots: what is found, and what is due
-abbrev step : ℕ → ℕ → Word → List ℕ → Stage → Answer → Word → List ℕ → After × After
-step W C w slots s answer w′ slots′ = ((deskAnswer W C w slots s, deskWord W C w slots s, deskSlots W C w slots s), (answer, w′, slots′))
+-- the desk at W and C, lent a word, slots and a stage: what is found, and what is due
+abbrev gives : ℕ → ℕ → Word → List ℕ → Stage → After → After × After
+gives W C w slots s due = ((deskAnswer W C w slots s, deskWord W C w slots s, deskSlots W C w slots s), due)
 
--- it gives an answer and alters nothing; and it refuses, and alters nothing
-abbrev keeps : ℕ → ℕ → Word → List ℕ → Stage → Answer → After × After
-keeps W C w slots s answer = step W C w slots s answer w slots
+-- it steps, and leaves a word and slots; it steps and alters nothing; and it refuses, and alters nothing
+abbrev step : ℕ → ℕ → Word → List ℕ → Stage → Next → Word → List ℕ → After × After
+step W C w slots s next w′ slots′ = gives W C w slots s (Stepped next, w′, slots′)
+
+abbrev keeps : ℕ → ℕ → Word → List ℕ → Stage → Next → After × After
+keeps W C w slots s next = step W C w slots s next w slots
 
 abbrev refused : ℕ → ℕ → Word → List ℕ → Stage → After × After
-refused W C w slots s = keeps W C w slots s (Refused s)
+refused W C w slots s = gives W C w slots s (Refused s, w, slots)
 
 -- four slots with a node in slot 0
 abbrev slots : ℕ → List ℕ
@@ -76,7 +81,7 @@ worked : map (λ c. c .0) cases ≡ map (λ c. c .1) cases
 worked = refl
 
 -- the paper's numbers and values for an answer of each kind
-numbered : (map numberOf (Node 7 ∷ Refused T1 ∷ []) ≡ 0 ∷ 10 ∷ [])
-    × (map stageOf (Going (P3 0) ∷ Node 7 ∷ Refused (B2 0) ∷ []) ≡ P3 0 ∷ Idle ∷ B2 0 ∷ [])
-    × (map resultOf (Node 7 ∷ Nil ∷ Lost ∷ Full ∷ Done ∷ []) ≡ (1 ∷ 7 ∷ []) ∷ (0 ∷ 0 ∷ []) ∷ (3 ∷ 0 ∷ []) ∷ (2 ∷ []) ∷ (1 ∷ []) ∷ [])
+numbered : (map numberOf (Stepped (Node 7) ∷ Refused T1 ∷ []) ≡ 0 ∷ 10 ∷ [])
+    × (map stageOf (Stepped (Going (P3 0)) ∷ Stepped (Node 7) ∷ Refused (B2 0) ∷ []) ≡ P3 0 ∷ Idle ∷ B2 0 ∷ [])
+    × (map (λ (n : Next). resultOf (Stepped n)) (Node 7 ∷ Nil ∷ Lost ∷ Full ∷ Done ∷ []) ≡ (1 ∷ 7 ∷ []) ∷ (0 ∷ 0 ∷ []) ∷ (3 ∷ 0 ∷ []) ∷ (2 ∷ []) ∷ (1 ∷ []) ∷ [])
 numbered = (refl, refl, refl)

@@ -1,20 +1,14 @@
 // The desk: one queue stepped by hand, one access a call, its control word altered where it stands.
-ghost use mathlib.Core.Path.{_≡_};
-ghost use Rattle.desk.specs.Desk.{answerOf, AtDesk};
+ghost use Rattle.desk.specs.Desk.{AtDesk};
 use queue::step_on;
 use steps::Next;
 use word::Stage;
 use word::Word;
 
-// What the desk gives back: the next stage, or the result of the call. Lost: NIL at T4. Refused: nothing was done, and the stage is given
-// back as lent.
+// What the desk gives back: what follows the table's step, the next stage or the result of the call; or a refusal, where nothing was done
+// and the stage is given back as lent.
 pub enum Answer {
-    Going(Stage),
-    Done,
-    Node(u16),
-    Nil,
-    Lost,
-    Full,
+    Stepped(Next),
     Refused(Stage),
 }
 
@@ -24,19 +18,6 @@ pub struct Desk {
     pub answer: Answer,
 }
 
-fn answer_of(next: Next) -> Answer
-    ensures { λ r. ⌜ r ≡ answerOf next ⌝ }
-{
-    match next {
-        Next::Going(following) => Answer::Going(following),
-        Next::Done => Answer::Done,
-        Next::Node(x) => Answer::Node(x),
-        Next::Nil => Answer::Nil,
-        Next::Lost => Answer::Lost,
-        Next::Full => Answer::Full,
-    }
-}
-
 // The table's step for one stage where it is in range, or a refusal, with the word given back instead of altered.
 pub fn step_by_value(width: u8, size: u8, word: Word, slots: &mut [u16], stage: Stage) -> Desk
     ensures { λ r. ⌜ AtDesk width size word (now (slots .entry)) stage (r .answer) (r .word) (now (slots .exit)) ⌝ }
@@ -44,9 +25,11 @@ pub fn step_by_value(width: u8, size: u8, word: Word, slots: &mut [u16], stage: 
     if range::in_range(width, size, slots.len(), word, stage) {
         let stepped = step_on(width, size, word, slots, stage);
         let next = stepped.next;
-        let answer = answer_of(next);
         let word = stepped.word;
-        Desk { word, answer }
+        Desk {
+            word,
+            answer: Answer::Stepped(next),
+        }
     } else {
         Desk {
             word,

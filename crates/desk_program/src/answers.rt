@@ -5,6 +5,7 @@ use lines::Why;
 use stdio::each;
 use stdio::number;
 use stdio::text;
+use steps::Next;
 use word::Stage;
 use word::Word;
 
@@ -75,17 +76,24 @@ fn stage(of: Stage) {
 }
 
 // The next stage, or the result of the call.
-pub(crate) fn answer(of: Answer) {
+fn follows(of: Next) {
     match of {
-        Answer::Going(next) => {
+        Next::Going(next) => {
             text(b" next ");
             stage(next);
         }
-        Answer::Done => text(b" done"),
-        Answer::Node(node) => number(b" node ", node),
-        Answer::Nil => text(b" nil"),
-        Answer::Lost => text(b" lost"),
-        Answer::Full => text(b" full"),
+        Next::Done => text(b" done"),
+        Next::Node(node) => number(b" node ", node),
+        Next::Nil => text(b" nil"),
+        Next::Lost => text(b" lost"),
+        Next::Full => text(b" full"),
+    }
+}
+
+// What follows the step, or that there was none.
+pub(crate) fn answer(of: Answer) {
+    match of {
+        Answer::Stepped(next) => follows(next),
         Answer::Refused(lent) => {
             text(b" refused 10 ");
             stage(lent);

@@ -3,7 +3,8 @@ use Rattle.base.specs.Words.{ℕ, _<_, true, List, length, take, _≡_}
 use Rattle.word.specs.{Range.inRange, declared.Word.Word, declared.Stage.Stage}
 use Rattle.steps.specs.{Step.stored, Step.steppedOn, declared.Stepped.Stepped, declared.PackedWord.PackedWord, declared.PackedStep.PackedStep}
 use Rattle.steps.specs.Packed.{packed, packedWord, unpacked, unpackedStep, StepPacked}
-use Rattle.desk.specs.Desk.{answerOf, AtDesk}
+use Rattle.desk.specs.Desk.{AtDesk}
+use Rattle.desk.specs.declared.Answer.the-variants as answers
 use Rattle.runs.specs.Promise.{Ran, HandsBack}
 
 pub record OneWord : Type 0 where
@@ -17,4 +18,4 @@ pub record OneWord : Type 0 where
   -- a word of the desk's three numbers, packed, stepped and unpacked, is what the desk promises in range
   pub desk-same : (W C : ℕ) (w : Word) (slots : List ℕ) (s : Stage) (answer : PackedStep) (after : List ℕ) → w .top < 65536
       → StepPacked W C (packedWord w) slots s answer after → inRange W C (length slots) w s ≡ true
-      → AtDesk W C w slots s (answerOf (answer .next)) (unpacked (answer .word)) after
+      → AtDesk W C w slots s (answers.Stepped (answer .next)) (unpacked (answer .word)) after

@@ -2,7 +2,8 @@
 use Rattle.base.specs.Words.{ℕ, _<_, true, List, [], _∷_, length, getD, _⊎_, _≡_}
 use Rattle.word.specs.{Range.inRange, declared.Stage.Stage, declared.Word.Word}
 use Rattle.steps.specs.{Step.stored, Step.steppedOn, Step.stageAfter, declared.Next.Next, declared.Stepped.Stepped}
-use Rattle.desk.specs.{Desk.answerOf, Desk.resultOf, Desk.AtDesk, declared.Answer.Answer}
+use Rattle.desk.specs.{Desk.resultOf, Desk.AtDesk, declared.Answer.Answer}
+use Rattle.desk.specs.declared.Answer.the-variants as answers
 use Rattle.runs.specs.Moment.{queueOf, Ended, Nothing, ends, ended}
 use Rattle.runs.specs.{State.Process, State.State, State.queueAt, State.processAt, Turn.act}
 
@@ -24,6 +25,6 @@ pub record OneStep : Type 0 where
   -- the desk's promise, on that word, these slots and that stage, is of the same step, where it is in range: in a run every step is (`shown`)
   pub desk-steps : (W C : ℕ) (w : Word) (slots : List ℕ) (z : Stage) (answer : Answer) (word : Word) (after : List ℕ)
       → AtDesk W C w slots z answer word after → inRange W C (length slots) w z ≡ true
-      → let o : Stepped = steppedOn W C w slots z in (answer ≡ answerOf (o .next)) × (word ≡ o .word) × (after ≡ stored slots (o .store))
+      → let o : Stepped = steppedOn W C w slots z in (answer ≡ answers.Stepped (o .next)) × (word ≡ o .word) × (after ≡ stored slots (o .store))
   -- the result at the desk, and the node of a pop, are those of the entry that a run's step writes
-  pub same-result : (p n : ℕ) (r owner : Process) (t : ℕ) (x : Next) → Tells (resultOf (answerOf x)) (ended p n r owner t x)
+  pub same-result : (p n : ℕ) (r owner : Process) (t : ℕ) (x : Next) → Tells (resultOf (answers.Stepped x)) (ended p n r owner t x)

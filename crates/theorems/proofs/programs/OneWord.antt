@@ -7,7 +7,7 @@ use Rattle.steps.specs.Packed.{packed, packedWord, unpacked, unpackedStep}
 use Rattle.steps.specs.declared.Stepped.{Stepped}
 use Rattle.steps.proofs.StepLaws.{sixteen-in}
 use Rattle.steps.proofs.PackedLaws.{on-three}
-use Rattle.desk.specs.Desk.{answerOf}
+use Rattle.desk.specs.declared.Answer.the-variants as answers
 use Rattle.desk.proofs.DeskLaws.{at-desk}
 use Rattle.base.proofs.Settled.{one-value}
 use Rattle.theorems.specs.OneWord.{OneWord}
@@ -23,6 +23,6 @@ one-word = record {
       let k = front-handed-back file buffer w′ b′ r′ t′ q in
       (d, one-value (d .part) (k .part), one-value (d .counts) (k .counts), one-value (d .queues) (k .queues));
   desk-same = λ W C w slots s answer after h d e.
-      at-desk W C w slots s after (unpackedStep answer) (answerOf (answer .next)) e
+      at-desk W C w slots s after (unpackedStep answer) (answers.Stepped (answer .next)) e
       (on-three W C w slots s (packedWord w) answer (unpackedStep answer) after h refl d refl) refl;
 }

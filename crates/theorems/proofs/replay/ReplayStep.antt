@@ -8,8 +8,9 @@ use borrow.Author.Tests.{ltb-false}
 use lib.Dec.{ltb}
 use lib.ListN.{length, getD, set, drop, List·getD-map}
 use lib.Seq.{slice, slice-cons, slice-empty, set-getD}
-use Rattle.desk.specs.Desk.{answerOf, numberOf, stageOf, deskAnswer, deskWord, deskSlots}
-use Rattle.desk.proofs.DeskLaws.{number-told, stage-told, row-done}
+use Rattle.desk.specs.declared.Answer.the-variants as answers
+use Rattle.desk.specs.Desk.{numberOf, stageOf, deskAnswer, deskWord, deskSlots}
+use Rattle.desk.proofs.DeskLaws.{row-done}
 use Rattle.word.specs.Range.{inRange}
 use Rattle.word.specs.inner.InRange.{StageIn}
 use Rattle.word.proofs.RangeLaws.{range-in}
@@ -74,7 +75,7 @@ module _ (f : RunFile) (h : InRanges f) (s : State) (v : Sound (sizesOf f) s) (c
   desk-row : (q : ℕ) (z : Stage) → q < length (f .shares) → StageIn (f .width) (f .size) z
       → let w : Word = wordAt (tableOf s) q in
       let x : List ℕ = slotsAt (tableOf s) q in
-      (deskAnswer (f .width) (f .size) w x z ≡ answerOf (row q z .next)) × (deskWord (f .width) (f .size) w x z ≡ row q z .word)
+      (deskAnswer (f .width) (f .size) w x z ≡ answers.Stepped (row q z .next)) × (deskWord (f .width) (f .size) w x z ≡ row q z .word)
       × (deskSlots (f .width) (f .size) w x z ≡ stored x (row q z .store))
   desk-row q z lt i =
       let W = f .width in
@@ -86,7 +87,7 @@ module _ (f : RunFile) (h : InRanges f) (s : State) (v : Sound (sizesOf f) s) (c
         word = v .words q lt;
         stage = i;
       }) in
-      subst (λ (y : Word). (deskAnswer W C y x z ≡ answerOf (row q z .next)) × (deskWord W C y x z ≡ row q z .word) × (deskSlots W C y x z ≡ stored x (row q z .store)))
+      subst (λ (y : Word). (deskAnswer W C y x z ≡ answers.Stepped (row q z .next)) × (deskWord W C y x z ≡ row q z .word) × (deskSlots W C y x z ≡ stored x (row q z .store)))
       (sym (word-at q)) (row-done W C w x z e)
 
   -- process p, whose turn it is, lends the stage z on queue q
@@ -98,13 +99,13 @@ module _ (f : RunFile) (h : InRanges f) (s : State) (v : Sound (sizesOf f) s) (c
     abbrev was : Note
     was = noteOf f (processAt (s .bench) p)
 
-    the-answer : answerTo (f .width) (f .size) (tableOf s) this ≡ answerOf (row q z .next)
+    the-answer : answerTo (f .width) (f .size) (tableOf s) this ≡ answers.Stepped (row q z .next)
     the-answer = desk-row q z lt i .0
 
     note-after : noted (noteAt notes p) (answerTo (f .width) (f .size) (tableOf s) this) ≡ noteAfter (stageAfter (row q z .next)) (was .calls)
     note-after =
         ap (λ (n : Note). noted n (answerTo (f .width) (f .size) (tableOf s) this)) (note-at p)
-        ∙ ap (λ (x : Stage). noteAfter x (was .calls)) (ap stageOf the-answer ∙ stage-told (row q z .next))
+        ∙ ap (λ (x : Stage). noteAfter x (was .calls)) (ap stageOf the-answer)
 
     one-step : (s′ : State) → lends p was ≡ this
         → tableOf s′ .words ≡ set (tableOf s .words) q (row q z .word)
@@ -115,7 +116,7 @@ module _ (f : RunFile) (h : InRanges f) (s : State) (v : Sound (sizesOf f) s) (c
     one-step s′ e words slots noting count = record {
       going = subst (λ (j : ℕ). j < 8) (sym who) small;
       next = sym (ap (λ (j : ℕ). lends j (noteAt notes j)) who ∙ ap (lends p) (note-at p) ∙ e);
-      number = ap numberOf the-answer ∙ number-told (row q z .next);
+      number = ap numberOf the-answer;
       after = λ j. record {
         schedule = drop 1 ps;
         notes = (ap (set notes p) note-after ∙ sym noting) j;

@@ -6,7 +6,8 @@ use mathlib.Core.List.{[], _∷_}
 use lib.ListN.{getD}
 use lib.Seq.{getD-set-same}
 use Rattle.steps.specs.Step.{stored, steppedOn}
-use Rattle.desk.specs.Desk.{answerOf, resultOf}
+use Rattle.desk.specs.declared.Answer.the-variants as answers
+use Rattle.desk.specs.Desk.{resultOf}
 use Rattle.steps.specs.declared.Next.{Next}
 use Rattle.steps.specs.declared.Next.the-variants.{Going, Done, Node, Nil, Lost, Full}
 use Rattle.steps.specs.declared.Stepped.{Stepped}
@@ -18,7 +19,7 @@ use Rattle.runs.specs.State.{Process, fresh, nobody, queueAt}
 use Rattle.runs.specs.Turn.{queueAfter, processAfter, act}
 use Rattle.theorems.specs.SameStep.{Tells, OneStep}
 
-same-result : (p n : ℕ) (r owner : Process) (t : ℕ) (x : Next) → Tells (resultOf (answerOf x)) (ended p n r owner t x)
+same-result : (p n : ℕ) (r owner : Process) (t : ℕ) (x : Next) → Tells (resultOf (answers.Stepped x)) (ended p n r owner t x)
 same-result p n r owner t (Going y) = refl
 same-result p n r owner t Done = inl refl
 same-result p n r owner t (Node x) = either-way (λ (e : Entry). Tells (1 ∷ x ∷ []) (ends e)) (isTake (r .call)) (λ _. inr refl) (λ _. inr refl)
