@@ -127,7 +127,7 @@ module _ (bytes : List ℕ) (ok : Bytes bytes) where
           ∙ listOf-take 0 5 bytes (omega arith)
 
   -- what is read from bytes fits them
-  entry-fits : (i : ℕ) → EntryFits (entryAt bytes i)
+  pub entry-fits : (i : ℕ) → EntryFits (entryAt bytes i)
   unfolding entryAt
   entry-fits i = record { bytes = (one 0, one 1, one 2, one 3); pairs = (two 4, two 6, two 8, two 10) }
     where
