@@ -20,7 +20,8 @@ use Rattle.rules.specs.Rules.{isEmpty, inCall, emptyWithin, takesTopmost, remov
 use Rattle.base.proofs.Bools.{contra, and-i, and-0, and-1, or-l, or-r, or-e, by-both, not-i, not-e, not-so}
 use Rattle.rules.proofs.SearchLaws.{any-e, any-i, from-i, from-e}
 use Rattle.rules.proofs.ContentLaws.{topmost, last-one}
-use Rattle.judge.specs.inner.Order.{momentAt, indexAt, instant, Fields, Ordered}
+use Rattle.keys.specs.inner.Keys.{momentAt, indexAt}
+use Rattle.judge.specs.inner.Order.{instant, Fields, Ordered}
 use Rattle.judge.specs.inner.Causes.{tookAt, otherTook, uncausedBy, Clean}
 use Rattle.judge.proofs.ReplayLaws.{event-of, passed, still, now-is, own-is}
 use Rattle.judge.proofs.ShelfLaws.{Shelf, takes, Shelves, full-of, empty-of}

@@ -16,7 +16,8 @@ use Rattle.rules.specs.Judge.{judgeOf}
 use Rattle.rules.specs.Left.{afterAll, leftIn, unordered, leftOf, Leaves}
 use Rattle.rules.proofs.ContentLaws.{before-start}
 use Rattle.rules.proofs.LeftLaws.{left-for-good, InOrder, in-order}
-use Rattle.judge.specs.inner.Order.{indexAt, instant, Ordered}
+use Rattle.keys.specs.inner.Keys.{indexAt}
+use Rattle.judge.specs.inner.Order.{instant, Ordered}
 use Rattle.judge.specs.inner.Replay.{loOf, hiOf, heldIn, endsAfter, LiesIn}
 use Rattle.judge.proofs.ReplayLaws.{still, other-is, own-is}
 use Rattle.judge.proofs.RowLaws.{moved-is, bounds}

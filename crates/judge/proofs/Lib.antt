@@ -4,6 +4,7 @@ pub mod Settled
 pub mod DequeLaws
 -- One rule each, as the code goes through them.
 pub mod EndLaws
+pub mod InsertLaws
 pub mod OrderLaws
 pub mod ReplayLaws
 pub mod NodeLaws

@@ -15,7 +15,8 @@ use Rattle.rules.specs.Judge.{worst4, first4}
 use Rattle.base.proofs.Bools.{contra, and-i, and-0, and-1, not-so}
 use Rattle.rules.proofs.SearchLaws.{first-is, first-hit, first-none, Hit, lowest-is, lowest-le}
 use Rattle.rules.proofs.ContentLaws.{before-quiet, before-still, before-event}
-use Rattle.judge.specs.inner.Order.{momentAt, indexAt, instant, Ordered}
+use Rattle.keys.specs.inner.Keys.{momentAt, indexAt}
+use Rattle.judge.specs.inner.Order.{instant, Ordered}
 
 module _ (f : ℕ → Entry) (n : ℕ) (keys : List ℕ) (count : ℕ) (o : Ordered f n keys count) where
   -- the key of a call with a moment

@@ -24,7 +24,8 @@ use Rattle.rules.proofs.SearchLaws.{Found, any-e, any-i, any-no}
 use Rattle.judge.proofs.EndLaws.{zeros}
 use Rattle.judge.proofs.DequeLaws.{content-push, content-bottom, content-top, content-none, none-bottom, none-top}
 use Rattle.rules.proofs.ContentLaws.{before-start}
-use Rattle.judge.specs.inner.Order.{indexAt, instant, Fields, Ordered}
+use Rattle.keys.specs.inner.Keys.{indexAt}
+use Rattle.judge.specs.inner.Order.{instant, Fields, Ordered}
 use Rattle.judge.specs.inner.Replay.{Differ, newIn, loOf, hiOf, heldIn, endsAfter}
 use Rattle.judge.proofs.ReplayLaws.{event-of, passed-back, now-is, other-is, own-is}
 

@@ -21,7 +21,8 @@ use Rattle.base.proofs.Bools.{contra, and-i, and-0, and-1}
 use Rattle.rules.proofs.SearchLaws.{Found}
 use Rattle.rules.proofs.ContentLaws.{before-start}
 use Rattle.judge.proofs.EndLaws.{zeros}
-use Rattle.judge.specs.inner.Order.{momentAt, indexAt, instant, Fields, Ordered}
+use Rattle.keys.specs.inner.Keys.{momentAt, indexAt}
+use Rattle.judge.specs.inner.Order.{instant, Fields, Ordered}
 use Rattle.fields.specs.inner.Took.{tookAfter}
 use Rattle.judge.specs.inner.Causes.{shelfBy, shelfAfter, tookAt, shelved, passedBy, Passable}
 use Rattle.judge.proofs.ReplayLaws.{event-of, passed, instant-le, still, now-is, other-is, own-is}

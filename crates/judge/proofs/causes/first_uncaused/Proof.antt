@@ -14,7 +14,8 @@ use Rattle.base.proofs.Bools.{and-0, and-1}
 use Rattle.rules.specs.Search.{first}
 use Rattle.rules.proofs.SearchLaws.{first-start, first-next, first-found, first-end}
 use Rattle.rules.specs.Rules.{breaks5}
-use Rattle.judge.specs.inner.Order.{momentAt, indexAt, instant}
+use Rattle.keys.specs.inner.Keys.{momentAt, indexAt}
+use Rattle.judge.specs.inner.Order.{instant}
 use Rattle.judge.specs.inner.Causes.{Passable, passedBy}
 use Rattle.judge.proofs.ShelfLaws.{Shelves, shelves-start, shelves-next, passable}
 use Rattle.judge.proofs.CauseLaws.{is-due, not-due, call-early, passed-next, nil-low, query-told, skip-told}

@@ -3,7 +3,7 @@ use mathlib.Core.Path.{_≡_, subst}
 use Prim.Native.Nat.{ℕ, _-_, _≤_, _<_}
 use native.Mathlib.Omega.{arith}
 use Rattle.log.specs.Decode.{entryAt}
-use Rattle.judge.specs.inner.Order.{indexAt}
+use Rattle.keys.specs.inner.Keys.{indexAt}
 use Rattle.judge.specs.inner.Replay.{hiOf}
 use Rattle.judge.proofs.LeavesLaws.{Lying, lying-start, lying-other, lying-own, lies}
 use Rattle.judge.proofs.leaves.replayed.Statement.{statement}

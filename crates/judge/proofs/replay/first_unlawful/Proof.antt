@@ -10,7 +10,7 @@ use lib.ListN.{length-set}
 use Rattle.log.specs.Decode.{entryAt}
 use Rattle.log.specs.declared.Entry.{Entry}
 use Rattle.rules.specs.Rules.{lawfulAt}
-use Rattle.judge.specs.inner.Order.{indexAt}
+use Rattle.keys.specs.inner.Keys.{indexAt}
 use Rattle.judge.proofs.ReplayLaws.{worst-is, none-worst}
 use Rattle.judge.proofs.RowLaws.{Replayed, replay-start, Told, told, wrong-is, added-low}
 use Rattle.judge.proofs.replay.first_unlawful.Statement.{statement}
