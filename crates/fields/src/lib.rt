@@ -1,14 +1,18 @@
-// What an entry says by itself: rules 1 and 3 of one entry, and what its call did, by kind and result alone.
+// What an entry says by itself: rules 1 and 3 of one entry, what its call did, by kind and result alone, and what that makes of its queue's ends.
 ghost use mathlib.Core.Path.{_≡_};
 ghost use mathlib.Core.Bool.{cond};
 ghost use lib.Dec.{eqb};
 ghost use Rattle.log.specs.Numbers.{what as whatIs, same, isTopNil, noMoment};
 ghost use Rattle.rules.specs.Contents.{bears as bearsIs};
 ghost use Rattle.rules.specs.Rules.{keeps1, inCall};
+ghost use Rattle.fields.specs.inner.Ends.{endsAfter};
 ghost use Rattle.fields.specs.inner.Fields.{standsIn};
 ghost use Rattle.fields.specs.inner.Took.{tookAfter};
 use log::Entry;
 use log::What;
+
+// Two numbers lie in one: the upper one times this, and the lower one.
+pub const UPPER: usize = 65536;
 
 // The last step at which a call may end, by rule 1.
 const LAST_END: u16 = 32766;
@@ -96,6 +100,30 @@ pub fn took_after(e: Entry, took: u32) -> u32
         e.moment as u32 + 1
     } else {
         took
+    }
+}
+
+// What a call makes of its queue's ends. They come in 32 bits, so that there is room for a push whatever they are.
+pub fn moved(ends: u32, e: Entry) -> usize
+    ensures { λ r. ⌜ r ≡ endsAfter (whatIs e) ends ⌝ }
+{
+    let at = ends as usize;
+    let did = log::what_of(e.kind, e.result);
+    match did {
+        What::Pushed => at + UPPER,
+        What::BottomNode => {
+            if at / UPPER <= at % UPPER {
+                return at;
+            }
+            at - UPPER
+        }
+        What::TopNode => {
+            if at / UPPER <= at % UPPER {
+                return at;
+            }
+            at + 1
+        }
+        What::Full | What::BottomNil | What::TopNil | What::TopLost => at,
     }
 }
 

@@ -6,10 +6,10 @@ pub mod DequeLaws
 pub mod EndLaws
 pub mod InsertLaws
 pub mod OrderLaws
+pub mod KeyLaws
 pub mod ReplayLaws
 pub mod NodeLaws
 pub mod RowLaws
-pub mod LeavesLaws
 pub mod ShelfLaws
 pub mod CauseLaws
 pub mod FullLaws

@@ -26,7 +26,8 @@ use Rattle.judge.proofs.DequeLaws.{content-push, content-bottom, conten
 use Rattle.rules.proofs.ContentLaws.{before-start}
 use Rattle.keys.specs.inner.Keys.{indexAt}
 use Rattle.judge.specs.inner.Order.{instant, Fields, Ordered}
-use Rattle.judge.specs.inner.Replay.{Differ, newIn, loOf, hiOf, heldIn, endsAfter}
+use Rattle.fields.specs.inner.Ends.{loOf, hiOf, endsAfter}
+use Rattle.judge.specs.inner.Replay.{Differ, newIn, heldIn}
 use Rattle.judge.proofs.ReplayLaws.{event-of, passed-back, now-is, other-is, own-is}
 
 module _ (l : List ℕ) (lo hi i v : ℕ) where

@@ -17,14 +17,10 @@ mod nodes; // whether the pushed nodes differ
 mod replay; // rule 4
 mod causes; // rule 5
 mod full; // rule 6
-mod leaves; // what is left in a queue
+mod ordered; // the calls of any log by rising moment
 
-pub use crate::leaves::Remaining;
-pub use crate::leaves::left;
+pub use crate::ordered::in_order;
 pub use rules::Verdict;
-
-// Two numbers lie in one: the upper one times this, and the lower one.
-const UPPER: usize = 65536;
 
 fn verdict_of(number: u8, j: usize) -> Verdict
     requires { ⌜ j < 65536 ⌝ }

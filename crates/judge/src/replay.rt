@@ -11,10 +11,11 @@ ghost use Rattle.rules.specs.Search.{any};
 ghost use Rattle.rules.specs.Rules.{lawful as lawfulIs};
 ghost use Rattle.rules.specs.Judge.{first4};
 ghost use Rattle.judge.specs.inner.Order.{Fields, Ordered, Whole};
-ghost use Rattle.judge.specs.inner.Replay.{Differ, newIn, endsAfter, heldIn, Roomy};
-use crate::UPPER;
+ghost use Rattle.judge.specs.inner.Replay.{Differ, newIn, heldIn, Roomy};
 use crate::read::entry;
+use fields::UPPER;
 use fields::choose;
+use fields::moved;
 use fields::pushed;
 use log::Entry;
 use log::What;
@@ -62,30 +63,6 @@ fn lawful(nodes: &[u16], row: usize, ends: usize, from: usize, count: usize, e: 
     }
 }
 
-// What a call makes of its queue's ends.
-pub(crate) fn moved(ends: usize, e: Entry) -> usize
-    requires { ⌜ ends < 2 ^ 32 ⌝ }
-    ensures { λ r. ⌜ r ≡ endsAfter (whatIs e) ends ⌝ }
-{
-    let did = log::what_of(e.kind, e.result);
-    match did {
-        What::Pushed => ends + UPPER,
-        What::BottomNode => {
-            if ends / UPPER <= ends % UPPER {
-                return ends;
-            }
-            ends - UPPER
-        }
-        What::TopNode => {
-            if ends / UPPER <= ends % UPPER {
-                return ends;
-            }
-            ends + 1
-        }
-        What::Full | What::BottomNil | What::TopNil | What::TopLost => ends,
-    }
-}
-
 // The entry that breaks rule 4, the first by moment, or n. The node is put above each queue's bottom by every call; only a push then moves the bottom
 // over it. The pushed nodes are watched where it is not known that they differ.
 pub(crate) fn first_unlawful(
@@ -114,7 +91,7 @@ pub(crate) fn first_unlawful(
             return j;
         }
         nodes[row + at / UPPER] = e.node;
-        ends[q] = moved(at, e);
+        ends[q] = moved(at as u32, e);
         nodes[from + c] = e.node;
         c = choose(pushed(e) & watch, c + 1, c);
         k = k + 1;

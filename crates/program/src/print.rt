@@ -43,7 +43,7 @@ fn queue(of: u8, nodes: &[u16]) {
 // The nodes that a log leaves in a queue, top first.
 fn left_in(log: &[u8], of: u8) {
     let mut nodes: [u16; 256] = [0; 256];
-    let left = judge::left(log, of, &mut nodes);
+    let left = leaves::left(log, of, &mut nodes);
     let n = left.count as usize;
     queue(of, &nodes[..n]);
 }

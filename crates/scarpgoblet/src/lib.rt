@@ -58,7 +58,7 @@ pub extern "C" fn scarpgoblet_left(
 ) -> u32
     ensures { λ r. ⌜ Leaves (now (log .entry)) queue r (getD (now (count .exit)) 0 0) (now (nodes .exit)) ⌝ }
 {
-    let left = judge::left(log, queue, nodes);
+    let left = leaves::left(log, queue, nodes);
     let number = left.number;
     *count = [left.count];
     number as u32

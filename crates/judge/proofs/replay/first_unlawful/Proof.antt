@@ -145,8 +145,8 @@ mul-nodes c = let r = read (c .before) in omega (arith, told-of r .high, narrow 
 slice-write-nodes : tie.Need-slice-write-nodes Inv-loop μ-loop
 slice-write-nodes c = let r = read (c .before) in omega (arith, told-of r .high, loop-at r .loop .inv .1 .nodes-long)
 
-moved-requires : tie.Need-moved-requires Inv-loop μ-loop
-moved-requires c κs = omega (arith, told-of (read (c .before)) .few)
+cast-moved : tie.Need-cast-moved Inv-loop μ-loop
+cast-moved c = omega (arith, told-of (read (c .before)) .few)
 
 mul-ends : tie.Need-mul-ends Inv-loop μ-loop
 mul-ends c = omega (arith, told-of (read (c .before .before)) .queue)
@@ -211,7 +211,8 @@ first-unlawful-spec =
     add-nodes
     mul-nodes
     slice-write-nodes
-    moved-requires
+    cast-moved
+    (λ c κs. search needs)
     mul-ends
     array-write-ends
     add-nodes-2

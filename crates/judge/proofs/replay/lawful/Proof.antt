@@ -7,7 +7,8 @@ use borrow.Author.Needs.{needs}
 use Rattle.log.specs.declared.What.{What}
 use Rattle.log.specs.Numbers.{what}
 use Rattle.rules.specs.Rules.{lawful}
-use Rattle.judge.specs.inner.Replay.{newIn, loOf, hiOf, heldIn}
+use Rattle.fields.specs.inner.Ends.{loOf, hiOf}
+use Rattle.judge.specs.inner.Replay.{newIn, heldIn}
 use Rattle.fields.proofs.KindLaws.{momentless}
 use Rattle.judge.proofs.DequeLaws.{content-last, content-first, content-empty, none-last, none-first}
 use Rattle.judge.proofs.replay.lawful.Statement.{statement}

@@ -1,16 +1,13 @@
-// What is left in a queue: its calls by rising moment, from an empty row. The nodes lie from lo, the top, up to hi, and the ends are 65,536 × hi + lo.
+// What is left in a queue: its calls by rising moment, from an empty row. Its nodes lie from lo, the top, up to hi; its ends are 65,536 × hi + lo.
 ghost use mathlib.Core.Path.{_≡_};
 ghost use Prim.Native.Nat.{_≤_};
 ghost use lib.ListN.{length};
-ghost use Rattle.log.specs.Decode.{entryAt};
+ghost use Rattle.log.specs.Decode.{entryCountOf, entryAt};
 ghost use Rattle.rules.specs.Left.{Leaves};
-ghost use Rattle.judge.specs.inner.Order.{Ordered, Whole};
-ghost use Rattle.judge.specs.inner.Replay.{loOf, hiOf, LiesIn};
-use crate::UPPER;
-use crate::judge;
-use crate::order::by_moment;
-use crate::read::entry;
-use crate::replay::moved;
+ghost use Rattle.fields.specs.inner.Ends.{loOf, hiOf};
+ghost use Rattle.judge.specs.inner.Order.{Ordered};
+ghost use Rattle.leaves.specs.inner.Lies.{LiesIn};
+use fields::UPPER;
 
 // The judge's number where the log's calls have no order, else 0; and how many nodes are left.
 pub struct Remaining {
@@ -22,28 +19,21 @@ pub struct Remaining {
 const LAST_UNORDERED: u8 = 16;
 
 // The node of every call is put above the bottom; only a push then moves the bottom over it.
-fn replayed(
-    log: &[u8],
-    n: usize,
-    queue: u8,
-    keys: &[usize; 256],
-    count: usize,
-    row: &mut [u16; 256],
-) -> usize
-    requires { ⌜ (n ≤ 256) × Ordered (entryAt (now log)) n (now keys) count × Whole (now log) n × (length (now row) ≡ 256) ⌝ }
-    ensures { λ r. ⌜ LiesIn (entryAt (now (log .entry))) n queue (now (row .exit)) (loOf r) (hiOf r) ⌝ }
+fn replayed(log: &[u8], queue: u8, keys: &[usize; 256], count: usize, row: &mut [u16; 256]) -> usize
+    requires { ⌜ (entryCountOf (now log) ≤ 256) × Ordered (entryAt (now log)) (entryCountOf (now log)) (now keys) count × (length (now row) ≡ 256) ⌝ }
+    ensures { λ r. ⌜ LiesIn (entryAt (now (log .entry))) (entryCountOf (now (log .entry))) queue (now (row .exit)) (loOf r) (hiOf r) ⌝ }
 {
     let mut ends: usize = 0;
     let mut k: usize = 0;
     while k < count {
         let key = keys[k];
-        let e = entry(log, key % 256);
+        let e = log::entry_at(log, key % 256);
         k = k + 1;
         if e.queue != queue {
             continue;
         }
         row[ends / UPPER] = e.node;
-        ends = moved(ends, e);
+        ends = fields::moved(ends as u32, e);
     }
     ends
 }
@@ -53,7 +43,7 @@ pub fn left(log: &[u8], queue: u8, nodes: &mut [u16; 256]) -> Remaining
     ensures { λ r. ⌜ Leaves (now (log .entry)) queue (r .number) (r .count) (now (nodes .exit)) ⌝ }
 {
     *nodes = [0; 256];
-    let verdict = judge(log);
+    let verdict = judge::judge(log);
     let number = verdict.number;
     if (0 < number) & (number <= LAST_UNORDERED) {
         return Remaining {
@@ -61,11 +51,10 @@ pub fn left(log: &[u8], queue: u8, nodes: &mut [u16; 256]) -> Remaining
             count: 0,
         };
     }
-    let n = base::number_at(log, 3) as usize;
     let mut keys: [usize; 256] = [0; 256];
-    let sorted = by_moment(log, n, &mut keys);
+    let calls = judge::in_order(log, &mut keys);
     let mut row: [u16; 256] = [0; 256];
-    let ends = replayed(log, n, queue, &keys, sorted.count, &mut row);
+    let ends = replayed(log, queue, &keys, calls, &mut row);
     let lo = ends % UPPER;
     let hi = ends / UPPER;
     let count = hi - lo;

@@ -1,4 +1,4 @@
--- `judge::replay::moved` meets its contract.
+-- `fields::moved` meets its contract.
 use mathlib.Core.Path.{_≡_, refl, sym, ap, _∙_}
 use mathlib.Core.Bool.{Bool, cond}
 use Prim.Native.Nat.{ℕ, _+_, _-_}
@@ -6,10 +6,10 @@ use borrow.Author.Tests.{le-leb, lt-leb}
 use borrow.Author.Needs.{needs}
 use Rattle.log.specs.declared.What.{What}
 use Rattle.log.specs.Numbers.{what}
-use Rattle.judge.specs.inner.Replay.{loOf, hiOf, endsAfter}
+use Rattle.fields.specs.inner.Ends.{loOf, hiOf, endsAfter}
 use Rattle.fields.proofs.KindLaws.{unaltered}
-use Rattle.judge.proofs.replay.moved.Statement.{statement}
-use Rattle.judge.proofs.replay.moved.Tie as tie
+use Rattle.fields.proofs.moved.Statement.{statement}
+use Rattle.fields.proofs.moved.Tie as tie
 
 -- where it has been told what the call did
 abbrev Read : Type 0

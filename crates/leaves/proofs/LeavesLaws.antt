@@ -5,22 +5,27 @@ use mathlib.Core.List.{List, [], _∷_, _++_}
 use Prim.Native.Nat.{ℕ, zero, suc, _+_, _-_, _≤_, _<_}
 use native.Mathlib.Numerals.{add-one}
 use native.Mathlib.Omega.{arith}
+use borrow.Author.Tests.{le-leb, eq-eqb}
 use lib.ListN.{length, set, take, drop, replicate, length-set}
 use lib.Seq.{slice, slice-empty, take-nil}
 use Rattle.log.specs.declared.Entry.{Entry}
 use Rattle.log.specs.Numbers.{what}
-use Rattle.log.specs.Decode.{entryCountOf, entryAt}
+use Rattle.log.specs.Decode.{logLength, entryCountOf, entryAt}
 use Rattle.rules.specs.Contents.{before, applied}
 use Rattle.rules.specs.declared.Verdict.{Verdict}
-use Rattle.rules.specs.Judge.{judgeOf}
+use Rattle.rules.specs.Judge.{first3, judgeOf}
 use Rattle.rules.specs.Left.{afterAll, leftIn, unordered, leftOf, Leaves}
+use Rattle.base.proofs.Bools.{and-i}
 use Rattle.rules.proofs.ContentLaws.{before-start}
 use Rattle.rules.proofs.LeftLaws.{left-for-good, InOrder, in-order}
+use Rattle.fields.specs.inner.Ends.{loOf, hiOf, endsAfter}
 use Rattle.keys.specs.inner.Keys.{indexAt}
 use Rattle.judge.specs.inner.Order.{instant, Ordered}
-use Rattle.judge.specs.inner.Replay.{loOf, hiOf, heldIn, endsAfter, LiesIn}
+use Rattle.judge.specs.inner.Orders.{hasOrder}
+use Rattle.judge.specs.inner.Replay.{heldIn}
 use Rattle.judge.proofs.ReplayLaws.{still, other-is, own-is}
 use Rattle.judge.proofs.RowLaws.{moved-is, bounds}
+use Rattle.leaves.specs.inner.Lies.{LiesIn}
 
 -- after the first k moments
 pub record Lying (f : ℕ → Entry) (n : ℕ) (keys : List ℕ) (k q : ℕ) (row : List ℕ) (s : ℕ) : Type 0 where
@@ -97,9 +102,9 @@ zeros-less (suc m) zero h = absurd (omega arith)
 zeros-less (suc m) (suc n) h = let e : suc n - suc m ≡ n - m = omega arith in rw e (zeros-less m n (omega arith))
 
 -- what is given for a log that is refused, and for one that is not
-module _ (bytes : List ℕ) (q : ℕ) (v : Verdict) (is : v ≡ judgeOf bytes) where
-  pub leaves-none : unordered (v .number) ≡ true → Leaves bytes q (v .number) 0 (replicate 256 0)
-  leaves-none t =
+module _ (bytes : List ℕ) (v : Verdict) (is : v ≡ judgeOf bytes) where
+  pub leaves-none : (q : ℕ) → unordered (v .number) ≡ true → Leaves bytes q (v .number) 0 (replicate 256 0)
+  leaves-none q t =
       let r : unordered (judgeOf bytes .number) ≡ true = ap (λ (w : Verdict). unordered (w .number)) (sym is) ∙ t in
       let none : [] ≡ leftOf bytes q = sym (ap (λ (s : Bool). cond s [] (leftIn (entryAt bytes) (entryCountOf bytes) q)) r) in
       record {
@@ -112,12 +117,20 @@ module _ (bytes : List ℕ) (q : ℕ) (v : Verdict) (is : v ≡ judgeOf bytes) w
     free : unordered (judgeOf bytes .number) ≡ false
     free = ap (λ (w : Verdict). unordered (w .number)) (sym is) ∙ t
 
-    pub whole-log : InOrder bytes
+    whole-log : InOrder bytes
     whole-log = in-order bytes free
 
-    pub leaves-some : (part : List ℕ) (c : ℕ) → part ≡ leftIn (entryAt bytes) (entryCountOf bytes) q → c ≡ length part → length part ≤ 256
+    pub few-calls : entryCountOf bytes ≤ 256
+    few-calls = whole-log .few
+
+    pub has-order : hasOrder bytes ≡ true
+    has-order =
+        and-i (and-i (le-leb (entryCountOf bytes) 256 few-calls) (eq-eqb (length bytes) (logLength (entryCountOf bytes)) (whole-log .sized)))
+        (le-leb (entryCountOf bytes) (first3 (entryAt bytes) (entryCountOf bytes)) (whole-log .rule3))
+
+    pub leaves-some : (q : ℕ) (part : List ℕ) (c : ℕ) → part ≡ leftIn (entryAt bytes) (entryCountOf bytes) q → c ≡ length part → length part ≤ 256
         → Leaves bytes q 0 c (part ++ drop (length part) (replicate 256 0))
-    leaves-some part c e l few =
+    leaves-some q part c e l few =
         let p : part ≡ leftOf bytes q = e ∙ sym (ap (λ (s : Bool). cond s [] (leftIn (entryAt bytes) (entryCountOf bytes) q)) free) in
         record {
           refused = sym (ap (λ (s : Bool). cond s (judgeOf bytes .number) 0) free);

@@ -1,0 +1,2 @@
+-- Terms of the code: a reader may skip them.
+pub mod Lies
