@@ -6,10 +6,11 @@ pub mod DequeLaws
 pub mod EndLaws
 pub mod InsertLaws
 pub mod OrderLaws
-pub mod KeyLaws
 pub mod ReplayLaws
 pub mod NodeLaws
 pub mod RowLaws
 pub mod ShelfLaws
 pub mod CauseLaws
 pub mod FullLaws
+-- The keys of a log, for who goes through its calls.
+pub mod KeyLaws

@@ -1,4 +1,4 @@
-// The calls of any log by rising moment, for who goes through them: the keys, where the log is whole and keeps rule 3.
+// The calls of any log by rising moment, for who goes through them outside the judge: the keys, where the log is whole and keeps rule 3.
 ghost use Rattle.judge.specs.inner.Orders.{Cleared, Orders};
 use crate::order::by_moment;
 use fields::choose;
