@@ -408,6 +408,7 @@ module _ (f : ℕ → Entry) (n : ℕ) (keys : List ℕ) (count : ℕ) (o : Orde
       pub queue : e .queue < 8
       pub high : width * e .queue + hiOf (getD ends (e .queue) 0) < 8 * width
       pub few : getD ends (e .queue) 0 < 2 ^ 25
+      pub next : endsAfter (what e) (getD ends (e .queue) 0) < 2 ^ 32
       pub ok : lawful (newIn nodes (8 * width) c (e .node)) (what e) (e .node) (heldIn nodes (width * e .queue) (getD ends (e .queue) 0)) ≡ lawfulAt f n (f j)
       pub turn : lawfulAt f n (f j) ≡ true → Replayed watch f n keys width (k + 1)
           (set (set nodes (width * e .queue + hiOf (getD ends (e .queue) 0)) (e .node)) (8 * width + c) (e .node))
@@ -415,4 +416,11 @@ module _ (f : ℕ → Entry) (n : ℕ) (keys : List ℕ) (count : ℕ) (o : Orde
 
     pub told : (e : Entry) → e ≡ f j → Told e
     told e e₁ = subst Told (sym e₁)
-        (record { queue = queue-low; high = hi-low; few = omega (arith, mine .high, mine .low, o .few); ok = ok-is; turn = replay-next })
+        (record {
+          queue = queue-low;
+          high = hi-low;
+          few = omega (arith, mine .high, mine .low, o .few);
+          next = omega (arith, bounds (what (f j)) at (mine .low) (omega (arith, mine .high, o .few)) .high, mine .high, o .few);
+          ok = ok-is;
+          turn = replay-next;
+        })

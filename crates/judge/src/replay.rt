@@ -78,7 +78,7 @@ pub(crate) fn first_unlawful(
     ensures { λ r. ⌜ r ≡ first4 (entryAt (now (log .entry))) n ⌝ }
 {
     let from = 8 * width;
-    let mut ends: [usize; 8] = [0; 8];
+    let mut ends: [u32; 8] = [0; 8];
     let mut c: usize = 0;
     let mut k: usize = 0;
     while k < count {
@@ -87,11 +87,12 @@ pub(crate) fn first_unlawful(
         let q = e.queue as usize;
         let row = width * q;
         let at = ends[q];
-        if !lawful(nodes, row, at, from, c, e) {
+        let here = at as usize;
+        if !lawful(nodes, row, here, from, c, e) {
             return j;
         }
-        nodes[row + at / UPPER] = e.node;
-        ends[q] = moved(at as u32, e);
+        nodes[row + here / UPPER] = e.node;
+        ends[q] = moved(at, e) as u32;
         nodes[from + c] = e.node;
         c = choose(pushed(e) & watch, c + 1, c);
         k = k + 1;

@@ -145,8 +145,8 @@ mul-nodes c = let r = read (c .before) in omega (arith, told-of r .high, narrow 
 slice-write-nodes : tie.Need-slice-write-nodes Inv-loop μ-loop
 slice-write-nodes c = let r = read (c .before) in omega (arith, told-of r .high, loop-at r .loop .inv .1 .nodes-long)
 
-cast-moved : tie.Need-cast-moved Inv-loop μ-loop
-cast-moved c = omega (arith, told-of (read (c .before)) .few)
+cast-ends : tie.Need-cast-ends Inv-loop μ-loop
+cast-ends c = omega (arith, c .moved .ensures, told-of (read (c .before .before)) .next)
 
 mul-ends : tie.Need-mul-ends Inv-loop μ-loop
 mul-ends c = omega (arith, told-of (read (c .before .before)) .queue)
@@ -205,14 +205,15 @@ first-unlawful-spec =
     mul-row
     mul-at
     array-read-at
+    (λ c. omega (arith, told-of (c .before) .few))
     lawful-requires
     same-length
     returns
     add-nodes
     mul-nodes
     slice-write-nodes
-    cast-moved
     (λ c κs. search needs)
+    cast-ends
     mul-ends
     array-write-ends
     add-nodes-2
