@@ -1,8 +1,7 @@
 // Whether rule 4 has to compare the nodes that are pushed: not where a table of marks says that they differ.
 ghost use mathlib.Core.Path.{_≡_};
 ghost use mathlib.Core.Bool.{true, false};
-ghost use Prim.Native.Nat.{_≤_, _<_};
-ghost use Rattle.marks.specs.inner.Marks.{marked, withMark};
+ghost use Prim.Native.Nat.{_≤_};
 ghost use Rattle.log.specs.Decode.{entryAt};
 ghost use Rattle.judge.specs.inner.Order.{Whole};
 ghost use Rattle.judge.specs.inner.Replay.{Differ};
@@ -10,13 +9,6 @@ use crate::read::entry;
 use fields::pushed;
 use marks::MARK_BYTES;
 use marks::mark;
-
-// Marks a pushed node; whether it was marked before. Of a parameter it is known, and of a field of an entry it is not, that it has sixteen bits.
-fn repeats(marks: &mut [u8; MARK_BYTES], node: u16) -> bool
-    ensures { λ r. ⌜ (r ≡ marked (now (marks .entry)) node) × (now (marks .exit) ≡ withMark (now (marks .entry)) node) × (node < 65536) ⌝ }
-{
-    mark(marks, node)
-}
 
 // Whether the nodes of all pushes differ.
 fn differ(log: &[u8], n: usize) -> bool
@@ -29,7 +21,7 @@ fn differ(log: &[u8], n: usize) -> bool
         let e = entry(log, i);
         i = i + 1;
         if pushed(e) {
-            if repeats(&mut marks, e.node) {
+            if mark(&mut marks, e.node) {
                 return false;
             }
         }

@@ -5,6 +5,7 @@ use native.Mathlib.Omega.{arith}
 use borrow.Author.Needs.{needs}
 use Rattle.base.proofs.Cases.{ever}
 use Rattle.log.specs.Decode.{entryAt}
+use Rattle.log.proofs.EncodeLaws.{entry-fits}
 use Rattle.log.specs.Numbers.{what, same}
 use Rattle.log.specs.declared.Entry.{Entry}
 use Rattle.log.specs.declared.What.the-variants.{Pushed}
@@ -37,11 +38,12 @@ loop-again c =
     let f = entryAt (start .args .log .now) in
     let l = c .before .before .before .before .before .before .before .loop in
     let is = c .before .before .before .before .before .entry .ensures in
-    let told = c .before .repeats .ensures in
+    let told = c .before .mark .ensures in
     let push = sym (ap (λ (e : Entry). same Pushed (what e)) is) ∙ sym (c .before .before .before .before .pushed .ensures)
     ∙ c .before .before .before .if1 .taken in
     let new = ap (λ (e : Entry). marked (l .marks) (e .node)) (sym is) ∙ sym (told .0) ∙ c .if2 .left in
-    let below = subst (λ (e : Entry). e .node < 65536) is (told .2) in (
+    let known = c .before .before .before .before .before .before .before .before .shared-slice-known .given in
+    let below = entry-fits (start .args .log .now) (λ j. known j .fits) (l .i) .pairs .0 in (
       omega (arith, c .before .before .before .before .before .before .loop-test .taken),
       subst (Marked f (l .i + 1)) (sym (told .1 ∙ ap (λ (e : Entry). withMark (l .marks) (e .node)) is))
           (marked-push f (l .i) (l .marks) (l .inv .1) below push new),
