@@ -139,12 +139,13 @@ pub fn judge(log: &[u8]) -> Verdict
     let count = base::byte_at(log, 0);
     let p = base::byte_at(log, 1);
     let slots = base::byte_at(log, 2);
-    let n = base::number_at(log, 3) as usize;
+    let entries = base::number_at(log, 3);
+    let n = entries as usize;
     let right = head_right(count, p, slots, n);
     if !right {
         return verdict_of(12, 0);
     }
-    let whole = log::HEAD_LENGTH + log::ENTRY_LENGTH * n;
+    let whole = log::length_of(entries);
     if log.len() < whole {
         return verdict_of(11, 0);
     }

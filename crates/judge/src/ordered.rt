@@ -19,8 +19,9 @@ pub fn in_order(log: &[u8], keys: &mut [usize; 256]) -> usize
     ensures { λ r. ⌜ Orders (now (log .entry)) r (now (keys .exit)) ⌝ }
 {
     *keys = [0; 256];
-    let n = base::number_at(log, 3) as usize;
-    let whole = log::HEAD_LENGTH + log::ENTRY_LENGTH * n;
+    let entries = base::number_at(log, 3);
+    let n = entries as usize;
+    let whole = log::length_of(entries);
     if !((n <= log::MOST_ENTRIES) & (log.len() == whole)) {
         return 0;
     }

@@ -62,7 +62,7 @@ pub const SECTION_COUNT: u8 = 2;
 // The bytes before the entries, and the bytes of an entry.
 pub const HEAD_LENGTH: usize = 5;
 
-pub const ENTRY_LENGTH: usize = 12;
+const ENTRY_LENGTH: usize = 12;
 
 // The most entries of a log, and its length then.
 pub const MOST_ENTRIES: usize = 256;

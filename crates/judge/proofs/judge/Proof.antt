@@ -53,30 +53,34 @@ returns-2 c =
 
 returns-3 : tie.Need-returns-3
 returns-3 c =
-    let k = c .before .before .before in
-    let t : length (log-of k) < 5 + 12 * entryCountOf (log-of k) = omega (arith, count-is k, c .before .if3 .taken) in
-    cut (log-of k) _ (long-enough k) (sym (head-is k) ∙ not-false _ (c .before .before .if2 .left)) t (c .verdict-of3 .ensures)
+    let w = c .before .before in
+    let k = w .before .before in
+    let t : length (log-of k) < 5 + 12 * entryCountOf (log-of k) = omega (arith, count-is k, w .length-of .ensures, c .before .if3 .taken) in
+    cut (log-of k) _ (long-enough k) (sym (head-is k) ∙ not-false _ (w .before .if2 .left)) t (c .verdict-of3 .ensures)
 
 returns-4 : tie.Need-returns-4
 returns-4 c =
-    let k = c .before .before .before .before in
-    let s : 5 + 12 * entryCountOf (log-of k) ≤ length (log-of k) = omega (arith, count-is k, c .before .before .if3 .left) in
-    let t : 5 + 12 * entryCountOf (log-of k) < length (log-of k) = omega (arith, count-is k, c .before .if4 .taken) in
-    long (log-of k) _ (long-enough k) (sym (head-is k) ∙ not-false _ (c .before .before .before .if2 .left)) s t (c .verdict-of4 .ensures)
+    let w = c .before .before .before in
+    let k = w .before .before in
+    let s : 5 + 12 * entryCountOf (log-of k) ≤ length (log-of k) = omega (arith, count-is k, w .length-of .ensures, c .before .before .if3 .left) in
+    let t : 5 + 12 * entryCountOf (log-of k) < length (log-of k) = omega (arith, count-is k, w .length-of .ensures, c .before .if4 .taken) in
+    long (log-of k) _ (long-enough k) (sym (head-is k) ∙ not-false _ (w .before .if2 .left)) s t (c .verdict-of4 .ensures)
 
 rules-requires : tie.Need-rules-requires
 rules-requires c κs =
-    let k = c .before .before .before in
+    let w = c .before .before in
+    let k = w .before .before in
     let f = few (section-at k) (processes-at k) (slots-at k) (count-at k)
-    (sym (k .head-right .ensures) ∙ not-false _ (c .before .before .if2 .left)) in
-    (f .0, f .1, omega (arith, c .before .if3 .left, c .if4 .left))
+    (sym (k .head-right .ensures) ∙ not-false _ (w .before .if2 .left)) in
+    (f .0, f .1, omega (arith, w .length-of .ensures, c .before .if3 .left, c .if4 .left))
 
 returns-5 : tie.Need-returns-5
 returns-5 c =
-    let k = c .before .before .before .before in
-    let s : 5 + 12 * entryCountOf (log-of k) ≤ length (log-of k) = omega (arith, count-is k, c .before .before .if3 .left) in
-    let t : length (log-of k) ≤ 5 + 12 * entryCountOf (log-of k) = omega (arith, count-is k, c .before .if4 .left) in
-    whole (log-of k) _ (long-enough k) (sym (head-is k) ∙ not-false _ (c .before .before .before .if2 .left)) s t
+    let w = c .before .before .before in
+    let k = w .before .before in
+    let s : 5 + 12 * entryCountOf (log-of k) ≤ length (log-of k) = omega (arith, count-is k, w .length-of .ensures, c .before .before .if3 .left) in
+    let t : length (log-of k) ≤ 5 + 12 * entryCountOf (log-of k) = omega (arith, count-is k, w .length-of .ensures, c .before .if4 .left) in
+    whole (log-of k) _ (long-enough k) (sym (head-is k) ∙ not-false _ (w .before .if2 .left)) s t
     (c .rules .ensures ∙ rules-read (log-of k) (section-at k) (processes-at k) (slots-at k) (count-at k)
     (k .before .before .before .byte-at2 .ensures) (k .before .before .byte-at3 .ensures) (count-is k))
 
@@ -94,8 +98,7 @@ judge-spec =
     (λ c κs. search needs)
     (λ c κs. search needs)
     returns-2
-    (λ c. search needs)
-    (λ c. search needs)
+    (λ c κs. search needs)
     (λ c κs. search needs)
     returns-3
     (λ c κs. search needs)
