@@ -182,10 +182,11 @@ module _ (s : List ℕ) (bytes : Bytes s) (shape : Shape) (e : readingOf (fileOf
   fits = subst Fit (sym sizes-are) (fit f in-ranges)
 
   -- the program's start is the start
-  starts : (b : HeldBench) → benchIn b ≡ startBench (firstLengths s (shape .processes)) → stateIn C b (replicate 512 0) ≡ start f
-  starts b d = λ i. record {
+  starts : (b : HeldBench) (flat : List ℕ) → benchIn b ≡ startBench (firstLengths s (shape .processes)) → flat ≡ replicate 512 0
+      → stateIn C b flat ≡ start f
+  starts b flat d none = λ i. record {
     bench = (d ∙ ap startBench shares-are) i;
-    slots = (slots-start C small ∙ ap (λ (x : Shape). replicate 8 (replicate (x .size) 0)) is-shape) i;
+    slots = (ap (slotsIn C) none ∙ slots-start C small ∙ ap (λ (x : Shape). replicate 8 (replicate (x .size) 0)) is-shape) i;
     log = [];
   }
 
@@ -211,36 +212,37 @@ module _ (s : List ℕ) (bytes : Bytes s) (shape : Shape) (e : readingOf (fileOf
     below = subst (λ (l : List ℕ). (k : ℕ) → k < length l → getD l k 0 < shape .processes) (sym schedule-is)
         (λ k h. omega (arith, in-ranges .schedule k h, ap (λ (x : Shape). x .processes) is-shape))
 
-    module _ (b₀ : HeldBench) (z : (benchIn b₀ ≡ startBench (firstLengths s (shape .processes))) × (b₀ .entries ≡ 0) × Whole b₀) where
+    module _ (b₀ : HeldBench) (z : (benchIn b₀ ≡ startBench (firstLengths s (shape .processes))) × (b₀ .entries ≡ 0) × Whole b₀)
+        (flat₀ : List ℕ) (none : flat₀ ≡ replicate 512 0) where
       d : benchIn b₀ ≡ startBench (firstLengths s (shape .processes))
       d = z .0
 
-      pub to-walk : ToWalk shape schedule b₀ (replicate 512 0)
+      pub to-walk : ToWalk shape schedule b₀ flat₀
       to-walk = record {
         whole = z .2;
         counted =
             subst (λ (m : ℕ). Counted m (benchIn b₀)) (sym (z .1)) (subst (Counted 0) (sym d) (start-counted (firstLengths s (shape .processes))));
         left =
-            subst (λ (x : State). total (x .bench .processes) + b₀ .entries ≤ shape .calls) (sym (starts b₀ d))
+            subst (λ (x : State). total (x .bench .processes) + b₀ .entries ≤ shape .calls) (sym (starts b₀ flat₀ d none))
             (room _ 0 (b₀ .entries) (start-bounded f) (z .1) all-calls);
         few = omega (arith, ap (λ (x : Bench). x .steps) d, ap length schedule-is, in-ranges .steps);
-        all-slots = length-replicate {A = ℕ} 512 0;
+        all-slots = ap length none;
         fit = fits;
-        sound = subst (λ (x : Sizes). Sound x (stateIn C b₀ (replicate 512 0))) (sym sizes-are)
-            (subst (Sound (sizesOf f)) (sym (starts b₀ d)) (sound-fresh (sizesOf f) (fit f in-ranges) (start f) (start-fresh f in-ranges)));
+        sound = subst (λ (x : Sizes). Sound x (stateIn C b₀ flat₀)) (sym sizes-are)
+            (subst (Sound (sizesOf f)) (sym (starts b₀ flat₀ d none)) (sound-fresh (sizesOf f) (fit f in-ranges) (start f) (start-fresh f in-ranges)));
         below = below;
       }
 
-      plays : walked false W C (firstCalls s (shape .processes) (shape .calls)) schedule (stateIn C b₀ (replicate 512 0)) ≡ played f
+      plays : walked false W C (firstCalls s (shape .processes) (shape .calls)) schedule (stateIn C b₀ flat₀) ≡ played f
       plays =
-          walk-plays W C (firstCalls s (shape .processes) (shape .calls)) schedule (stateIn C b₀ (replicate 512 0))
-          ∙ ap (λ (x : State). play W C (firstCalls s (shape .processes) (shape .calls)) schedule x) (starts b₀ d)
+          walk-plays W C (firstCalls s (shape .processes) (shape .calls)) schedule (stateIn C b₀ flat₀)
+          ∙ ap (λ (x : State). play W C (firstCalls s (shape .processes) (shape .calls)) schedule x) (starts b₀ flat₀ d none)
           ∙ ap (λ (l : List Call). play W C l schedule (start f)) calls-are
           ∙ ap (λ (l : List ℕ). play W C (f .calls) l (start f)) schedule-is
           ∙ ap (λ (x : Shape). play (x .width) (x .size) (f .calls) (f .schedule) (start f)) is-shape
 
       module _ (log₀ : List ℕ) (b₁ : HeldBench) (flat₁ log₁ : List ℕ)
-          (g : Becomes C (b₀ .entries) log₀ (walked false W C (firstCalls s (shape .processes) (shape .calls)) schedule (stateIn C b₀ (replicate 512 0))) b₁ flat₁ log₁) where
+          (g : Becomes C (b₀ .entries) log₀ (walked false W C (firstCalls s (shape .processes) (shape .calls)) schedule (stateIn C b₀ flat₀)) b₁ flat₁ log₁) where
         becomes-played : Becomes C 0 log₀ (played f) b₁ flat₁ log₁
         becomes-played =
             subst (λ (n : ℕ). Becomes C n log₀ (played f) b₁ flat₁ log₁) (z .1)
@@ -273,32 +275,37 @@ module _ (s : List ℕ) (bytes : Bytes s) (shape : Shape) (e : readingOf (fileOf
               (becomes-next C 0 (close W C closingSteps) (close-later W C closingSteps) (played f) log₀ b₁ flat₁ log₁
               becomes-played b₂ flat₂ log₂ k)
 
-          closed-counted : Counted (b₂ .entries) (benchIn b₂)
-          closed-counted = held-counted C 0 log₀ (closed f) b₂ flat₂ log₂ becomes-closed (closed-kept f)
+  -- the closed run, as the program holds it
+  module _ (log₀ : List ℕ) (b₂ : HeldBench) (flat₂ log₂ : List ℕ) (k : Becomes C 0 log₀ (closed f) b₂ flat₂ log₂) where
+    entries-few : length (closed f .log) ≤ length (f .calls)
+    entries-few = omega (arith, entries-most f, in-ranges .count)
 
-          entries-few : length (closed f .log) ≤ length (f .calls)
-          entries-few = omega (arith, entries-most f, in-ranges .count)
+    pub ends : length flat₂ ≡ 512 → Ends shape b₂ flat₂
+    ends l = record {
+      whole = k .whole;
+      counted = held-counted C 0 log₀ (closed f) b₂ flat₂ log₂ k (closed-kept f);
+      processes = few-processes;
+      size = small;
+      all-slots = l;
+    }
 
-          pub ends : length flat₂ ≡ 512 → Ends shape b₂ flat₂
-          ends l = record { whole = k .whole; counted = closed-counted; processes = few-processes; size = small; all-slots = l }
+    ran : (buffer : List ℕ) → 5 + 12 * shape .calls ≤ length buffer → runOf s (length buffer) ≡ finished f (closed f)
+    unfolding runOf outcome
+    ran buffer room =
+        let all = ap (λ (x : Shape). x .calls) is-shape in
+        ap (outcome (length buffer)) is-good
+        ∙ ap (λ (t : Bool). cond t (refusal 8) (finished f (closed f))) (le-ltb (length buffer) (5 + 12 * length (f .calls)) (omega arith))
 
-          ran : (buffer : List ℕ) → 5 + 12 * shape .calls ≤ length buffer → runOf s (length buffer) ≡ finished f (closed f)
-          unfolding runOf outcome
-          ran buffer room =
-              let all = ap (λ (x : Shape). x .calls) is-shape in
-              ap (outcome (length buffer)) is-good
-              ∙ ap (λ (t : Bool). cond t (refusal 8) (finished f (closed f))) (le-ltb (length buffer) (5 + 12 * length (f .calls)) (omega arith))
-
-          pub gives-0 : (written : ℕ) (buffer′ report table : List ℕ) (roomy : Bool)
-              → roomy ≡ leb (5 + 12 * shape .calls) (length log₀) → roomy ≡ true
-              → Finishes (shape .processes) C b₂ flat₂ log₂ written buffer′ report table → Ran s log₀ written buffer′ report table
-          gives-0 written buffer′ report table roomy is t h =
-              let all = ap (λ (x : Shape). x .calls) is-shape in
-              let fits = leb-true (5 + 12 * shape .calls) (length log₀) (sym is ∙ t) in
-              subst (λ (o : Outcome). Gives o log₀ written buffer′ report table) (sym (ran log₀ fits))
-              (finished-gives f (closed f) log₀ b₂ flat₂ log₂ written buffer′ report table
-              (subst (λ (x : Shape). Becomes (x .size) 0 log₀ (closed f) b₂ flat₂ log₂) is-shape becomes-closed) (omega (arith, fits, entries-few))
-              (subst (λ (x : Shape). Finishes (x .processes) (x .size) b₂ flat₂ log₂ written buffer′ report table) is-shape h))
+    pub gives-0 : (written : ℕ) (buffer′ report table : List ℕ) (roomy : Bool)
+        → roomy ≡ leb (5 + 12 * shape .calls) (length log₀) → roomy ≡ true
+        → Finishes (shape .processes) C b₂ flat₂ log₂ written buffer′ report table → Ran s log₀ written buffer′ report table
+    gives-0 written buffer′ report table roomy is t h =
+        let all = ap (λ (x : Shape). x .calls) is-shape in
+        let fits = leb-true (5 + 12 * shape .calls) (length log₀) (sym is ∙ t) in
+        subst (λ (o : Outcome). Gives o log₀ written buffer′ report table) (sym (ran log₀ fits))
+        (finished-gives f (closed f) log₀ b₂ flat₂ log₂ written buffer′ report table
+        (subst (λ (x : Shape). Becomes (x .size) 0 log₀ (closed f) b₂ flat₂ log₂) is-shape k) (omega (arith, fits, entries-few))
+        (subst (λ (x : Shape). Finishes (x .processes) (x .size) b₂ flat₂ log₂ written buffer′ report table) is-shape h))
 
   pub gives-8 : (buffer : List ℕ) (roomy : Bool) → roomy ≡ leb (5 + 12 * shape .calls) (length buffer) → roomy ≡ false
       → runOf s (length buffer) ≡ refusal 8

@@ -1,9 +1,11 @@
 // The bench: runs a file of scripts under its schedule, one shared access at a time.
 ghost use mathlib.Core.Path.{_≡_};
-ghost use lib.ListN.{length};
+ghost use lib.ListN.{length, replicate};
 ghost use denote.Ref.{ptr};
-ghost use Rattle.runfile.specs.File.{fileOf, readingOf};
+ghost use Rattle.runfile.specs.File.{recordIn, fileOf, readingOf};
+ghost use Rattle.runs.specs.Run.{closed};
 ghost use Rattle.runs.specs.Promise.{Ran, HandsBack};
+ghost use Rattle.bench.specs.inner.Layout.{allSlots, Becomes};
 ghost use Rattle.bench.specs.inner.Finish.{Ends, Finishes};
 
 mod moment; // what a step ends, and its moment
@@ -59,6 +61,18 @@ fn finish(
     log::length_of(state.entries)
 }
 
+// The steps of a good file, of its schedule and then of the closing, from eight fresh queues.
+fn steps(file: &[u8], shape: Shape, slots: &mut [u16], log: &mut [u8]) -> Bench
+    requires { ⌜ (readingOf (fileOf (now file)) ≡ Reading.Good shape) × (now slots ≡ replicate allSlots 0) ⌝ }
+    ensures { λ r. ⌜ Becomes (shape .size) 0 (now (log .entry)) (closed (recordIn (now (file .entry)))) r (now (slots .exit)) (now (log .exit)) ⌝ }
+{
+    let started = start::start(file, shape.processes);
+    let from = shape.schedule_place();
+    let to = from + shape.steps as usize;
+    let played = loops::walk(file, shape, &file[from..to], started, false, slots, log);
+    loops::close(file, shape, played, slots, log)
+}
+
 // The run of a good file. Nothing is refused after its first step, so that the entries are written straight into the buffer.
 fn run_good(
     file: &[u8],
@@ -74,19 +88,7 @@ fn run_good(
         return refuse(8, report, table);
     }
     let mut slots = [0u16; ALL_SLOTS];
-    let started = start::start(file, shape.processes);
-    let from = shape.schedule_place();
-    let to = from + shape.steps as usize;
-    let played = loops::walk(
-        file,
-        shape,
-        &file[from..to],
-        started,
-        false,
-        &mut slots,
-        buffer,
-    );
-    let closed = loops::close(file, shape, played, &mut slots, buffer);
+    let closed = steps(file, shape, &mut slots, buffer);
     finish(shape, closed, &slots, buffer, report, table)
 }
 
