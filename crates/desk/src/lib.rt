@@ -1,7 +1,9 @@
 // The desk: one queue stepped by hand, one access a call, its control word altered where it stands.
+ghost use Rattle.steps.specs.Step.{StepOn};
 ghost use Rattle.desk.specs.Desk.{AtDesk};
-use queue::step_on;
 use steps::Next;
+use steps::PackedWord;
+use steps::Stepped;
 use word::Stage;
 use word::Word;
 
@@ -16,6 +18,14 @@ pub enum Answer {
 pub struct Desk {
     pub word: Word,
     pub answer: Answer,
+}
+
+// The table's step on a word of three numbers: packed, stepped and unpacked.
+fn step_on(width: u8, size: u8, word: Word, slots: &mut [u16], stage: Stage) -> Stepped
+    ensures { λ r. ⌜ StepOn width size word (now (slots .entry)) stage r (now (slots .exit)) ⌝ }
+{
+    let stepped = queue::step_packed(width, size, PackedWord::of(word), slots, stage);
+    stepped.unpacked()
 }
 
 // The table's step for one stage where it is in range, or a refusal, with the word given back instead of altered.

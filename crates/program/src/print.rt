@@ -1,13 +1,15 @@
 // What the program prints: numbers, separated by single spaces, a line at a time.
 use log::Entry;
 use stdio::each;
+use stdio::last;
+use stdio::line;
 use stdio::number;
 use stdio::text;
 
 // Process, queue, kind, result, node, start, end, moment.
 fn entry(of: Entry) {
-    number(b"", of.process as u16);
-    each(
+    line(
+        of.process as u16,
         &[
             of.queue as u16,
             of.kind as u16,
@@ -18,7 +20,6 @@ fn entry(of: Entry) {
             of.moment,
         ],
     );
-    text(b"\n");
 }
 
 // The entries of a log, a line each.
@@ -69,19 +70,16 @@ pub(crate) fn counts(entries: u16, steps: u16, gone: u16, verdict: u8) {
     number(b"entries ", entries);
     number(b" steps ", steps);
     number(b" gone-round ", gone);
-    number(b" judge ", verdict as u16);
-    text(b"\n");
+    last(b" judge ", verdict as u16);
 }
 
 pub(crate) fn refused(n: u16) {
-    number(b"refused ", n);
-    text(b"\n");
+    last(b"refused ", n);
 }
 
 pub(crate) fn verdict(n: u8, at: u16) {
     number(b"judge ", n as u16);
-    number(b" entry ", at);
-    text(b"\n");
+    last(b" entry ", at);
 }
 
 // How the program is used.

@@ -1,19 +1,12 @@
--- What the public functions promise settles their answers.
+-- What the public function promises settles its answer.
 use mathlib.Core.Path.{_≡_}
 use mathlib.Core.List.{List}
 use Prim.Native.Nat.{ℕ}
 use Rattle.base.proofs.Settled.{one-value}
-use Rattle.word.specs.declared.Word.{Word}
 use Rattle.word.specs.declared.Stage.{Stage}
-use Rattle.steps.specs.Step.{StepOn}
 use Rattle.steps.specs.Packed.{StepPacked}
-use Rattle.steps.specs.declared.Stepped.{Stepped}
 use Rattle.steps.specs.declared.PackedWord.{PackedWord}
 use Rattle.steps.specs.declared.PackedStep.{PackedStep}
-
-pub step-on : (W C : ℕ) (w : Word) (slots : List ℕ) (s : Stage) (r r′ : Stepped) (l l′ : List ℕ) →
-    StepOn W C w slots s r l → StepOn W C w slots s r′ l′ → (r ≡ r′) × (l ≡ l′)
-step-on W C w slots s r r′ l l′ p q = (one-value (p .stepped) (q .stepped), one-value (p .kept) (q .kept))
 
 pub step-packed : (W C : ℕ) (w : PackedWord) (slots : List ℕ) (s : Stage) (r r′ : PackedStep) (l l′ : List ℕ) →
     StepPacked W C w slots s r l → StepPacked W C w slots s r′ l′ → (r ≡ r′) × (l ≡ l′)

@@ -1,7 +1,7 @@
 // The step of the queue: document 01's table, one shared access with the local work after it, by value.
 // It knows nothing of how slots lie, of processes or of runs.
 ghost use mathlib.Core.Path.{_≡_};
-ghost use Rattle.steps.specs.Step.{loadedSlot, loaded, stored, StepOn};
+ghost use Rattle.steps.specs.Step.{loadedSlot, loaded, stored};
 ghost use Rattle.steps.specs.Packed.{StepPacked};
 
 mod rows; // the rows of the table
@@ -9,10 +9,8 @@ mod rows; // the rows of the table
 use steps::Load;
 use steps::PackedStep;
 use steps::PackedWord;
-use steps::Stepped;
 use steps::Store;
 use word::Stage;
-use word::Word;
 use word::stages::below;
 
 // The slot that a stage loads; only T3 and B3 load one.
@@ -68,12 +66,4 @@ pub fn step_packed(
     let made = stepped.store;
     store_in(slots, made);
     stepped
-}
-
-// The same on a word of three numbers: packed, stepped and unpacked.
-pub fn step_on(width: u8, size: u8, word: Word, slots: &mut [u16], stage: Stage) -> Stepped
-    ensures { λ r. ⌜ StepOn width size word (now (slots .entry)) stage r (now (slots .exit)) ⌝ }
-{
-    let stepped = step_packed(width, size, PackedWord::of(word), slots, stage);
-    stepped.unpacked()
 }

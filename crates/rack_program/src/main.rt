@@ -1,7 +1,7 @@
 // The rack: runs the files of a rack on standard input and prints a line a file, its number, entries, steps, gone-round takes and the judge's number;
 // or `refused` and the number of what is no rack.
-use stdio::each;
-use stdio::number;
+use stdio::last;
+use stdio::line;
 use stdio::text;
 
 // As much as is read, and as many files as are replied to: whoever packs more makes two racks. A longer rack, of whose end nothing is known, is not run.
@@ -14,8 +14,8 @@ const MOST_FILES: usize = 1024;
 // Reply i: its number, and the four after it.
 fn print_reply(replies: &[u8], i: u16) {
     let at = REPLY_BYTES * (i as usize);
-    number(b"", base::byte_at(replies, at) as u16);
-    each(
+    line(
+        base::byte_at(replies, at) as u16,
         &[
             base::number_at(replies, at + 1),
             base::number_at(replies, at + 3),
@@ -23,7 +23,6 @@ fn print_reply(replies: &[u8], i: u16) {
             base::byte_at(replies, at + 7) as u16,
         ],
     );
-    text(b"\n");
 }
 
 fn print_replies(replies: &[u8], count: u16) {
@@ -39,8 +38,7 @@ fn run_rack(files: &[u8]) {
     let mut replies = [0u8; REPLY_BYTES * MOST_FILES];
     let refused = rack::rack(files, &mut log, &mut replies);
     if refused != 0 {
-        number(b"refused ", refused as u16);
-        text(b"\n");
+        last(b"refused ", refused as u16);
         return;
     }
     print_replies(&replies, base::number_at(files, 0));

@@ -59,6 +59,12 @@ pub fn number(word: &[u8], n: u16) {
     io::print_decimal(STDOUT_FILENO, n as u64);
 }
 
+// The same, and the end of the line.
+pub fn last(word: &[u8], n: u16) {
+    number(word, n);
+    text(b"\n");
+}
+
 // Each number after a blank.
 pub fn each(numbers: &[u16]) {
     let mut at: usize = 0;
@@ -66,4 +72,11 @@ pub fn each(numbers: &[u16]) {
         number(b" ", numbers[at]);
         at = at + 1;
     }
+}
+
+// A line of numbers, a blank between two of them.
+pub fn line(first: u16, rest: &[u16]) {
+    number(b"", first);
+    each(rest);
+    text(b"\n");
 }

@@ -1,8 +1,8 @@
 -- `step_on` meets its contract.
 use borrow.Author.Needs.{needs}
 use Rattle.steps.proofs.PackedLaws.{on-three}
-use Rattle.queue.proofs.step_on.Statement.{statement}
-use Rattle.queue.proofs.step_on.Tie as tie
+use Rattle.desk.proofs.step_on.Statement.{statement}
+use Rattle.desk.proofs.step_on.Tie as tie
 
 returns : tie.Need-returns
 returns c =
