@@ -1,4 +1,6 @@
 // What both files and every engine need: bytes, numbers of two bytes, high byte first, and casts that ask nothing of their caller.
+#![tactic(auto)]
+
 ghost use Rattle.std.specs.Prelude.{◌≡◌, ◌/◌, ◌%◌, ◌<◌};
 ghost use Rattle.base.specs.Bytes.{joined as joined_of, byte_at, number_at, put_at};
 

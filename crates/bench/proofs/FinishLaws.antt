@@ -8,10 +8,10 @@ use lib.Seq.{drop_at, length-take-le, drop-drop}
 use borrow.Author.Tests.{le-leb}
 use Rattle.base.specs.Bytes.{put_at}
 use Rattle.base.specs.Lists.{list_of}
-use Rattle.log.specs.Encode.{Log, head_bytes, entry_bytes, entries_bytes, log_bytes}
+use Rattle.call_log.specs.Encode.{Log, head_bytes, entry_bytes, entries_bytes, log_bytes}
 use Rattle.base.proofs.Bytes.{put_after}
-use Rattle.log.proofs.EncodeLaws.{length_log}
-use Rattle.log.specs.declared.Entry.{Entry}
+use Rattle.call_log.proofs.EncodeLaws.{length_log}
+use Rattle.call_log.specs.declared.Entry.{Entry}
 use Rattle.runfile.specs.File.{RunFile}
 use Rattle.bench.specs.Inner.Layout.{slots_in, put_entries, Becomes}
 use Rattle.runs.specs.Promise.{Gives}

@@ -9,9 +9,9 @@ use lib.Seq.{get_or-take, get_or-drop, get_or-append-add, get_or-set_same, get_o
 use borrow.Rule.Slice.PartMut.{put_mid, same_len_mid}
 use Rattle.base.specs.Bytes.{put_at}
 use Rattle.base.specs.Lists.{list_of}
-use Rattle.log.specs.Encode.{entry_bytes}
+use Rattle.call_log.specs.Encode.{entry_bytes}
 use Rattle.base.proofs.Lists.{list_of-length, list_of_get_d, rows_apart}
-use Rattle.log.specs.declared.Entry.{Entry}
+use Rattle.call_log.specs.declared.Entry.{Entry}
 use Rattle.steps.specs.Step.{stored}
 use Rattle.steps.specs.Packed.{unpacked, StepPacked}
 use Rattle.word.specs.declared.Stage.{Stage}

@@ -10,8 +10,8 @@ use borrow.Author.Tests.{ltb-true, ltb-false}
 use lib.Dec.{ltb}
 use lib.ListN.{length, get_or, take, drop, length-append, length-drop, take-append-drop, drop_of_length-le, replicate, get_or-replicate}
 use Rattle.base.specs.Bytes.{put_at}
-use Rattle.log.specs.Encode.{entry_bytes}
-use Rattle.log.specs.declared.Entry.{Entry}
+use Rattle.call_log.specs.Encode.{entry_bytes}
+use Rattle.call_log.specs.declared.Entry.{Entry}
 use Rattle.word.specs.Stages.{is_idle}
 use Rattle.word.specs.Inner.StepsLeft.{steps_left}
 use Rattle.runfile.specs.declared.Call.{Call}

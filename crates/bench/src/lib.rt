@@ -1,4 +1,6 @@
 // The bench: runs a file of scripts under its schedule, one shared access at a time.
+#![tactic(auto)]
+
 ghost use Rattle.std.specs.Prelude.{◌≡◌, length, replicate};
 ghost use Rattle.runfile.specs.File.{record_in, file_of, reading_of};
 ghost use Rattle.runs.specs.Run.{closed};
@@ -12,7 +14,7 @@ mod loops; // the schedule and the closing
 mod table; // the final table
 mod turn; // one step of a run, through the step of the queue
 
-use log::Entry;
+use call_log::Entry;
 pub use records::TABLE_SIZE;
 use records::{ALL_SLOTS, Process, refuse};
 use runfile::{Reading, Shape};
@@ -22,7 +24,7 @@ use steps::PackedWord;
 const CLOSING_ROUNDS: u8 = 8;
 
 // The state of a run, but for the slots, which lie in an array of their own, and the log, which lies in the buffer.
-#[derive(Drop)]
+#[derive(Clone, Copy)]
 pub struct Bench {
     pub words: [PackedWord; 8],
     pub resets: [u16; 8],
@@ -33,7 +35,7 @@ pub struct Bench {
 }
 
 // What a step gives the log: nothing, or the entry of the call that it ended.
-#[derive(Drop)]
+#[derive(Clone, Copy)]
 pub enum Ended {
     Nothing,
     Call(Entry),
@@ -51,11 +53,11 @@ fn finish(
     requires { Ends shape state slots.now }
     ensures { Finishes shape.processes shape.size state slots.now buffer.old result buffer.new report.new table.new }
 {
-    log::put_head(buffer, shape.processes, shape.size, state.entries);
+    call_log::put_head(buffer, shape.processes, shape.size, state.entries);
     *report = [0, state.entries, state.steps, state.gone];
     let words = state.words;
     table::fill(table, shape.processes, shape.size, words, slots);
-    log::length_of(state.entries)
+    call_log::length_of(state.entries)
 }
 
 // The steps of a good file, of its schedule and then of the closing, from eight fresh queues.
@@ -81,7 +83,7 @@ fn run_good(
     requires { reading_of (file_of file.now) ≡ Reading.Good shape }
     ensures { Ran file.now buffer.old result buffer.new report.new table.new }
 {
-    if !log::has_room(buffer, shape.calls) {
+    if !call_log::has_room(buffer, shape.calls) {
         return refuse(8, report, table);
     }
     let mut slots = [0u16; ALL_SLOTS];

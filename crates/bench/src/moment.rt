@@ -5,7 +5,7 @@ ghost use Rattle.bench.specs.Inner.Layout.{ended_in};
 ghost use Rattle.runs.specs.Moment.{pushed_node, entry as entry_of, nil_moment, take_moment, node_entry, nil_entry, ended as ended_of};
 
 use crate::Ended;
-use log::{Entry, What};
+use call_log::{Entry, What};
 use records::{Process, is_take, queue_of};
 use runfile::Call;
 use steps::Next;
@@ -27,8 +27,8 @@ fn entry(p: u8, n: u16, of: Process, what: What, node: u16, moment: u16) -> Entr
     Entry {
         process: p,
         queue: queue_of(p, of),
-        kind: log::kind_of(what),
-        result: log::result_of(what),
+        kind: call_log::kind_of(what),
+        result: call_log::result_of(what),
         node,
         start: of.start,
         end: n,
@@ -82,7 +82,7 @@ fn nil_entry(p: u8, n: u16, of: Process) -> Entry
 {
     let call = of.call;
     if is_take(call) {
-        entry(p, n, of, What::TopNil, 0, log::NO_MOMENT)
+        entry(p, n, of, What::TopNil, 0, call_log::NO_MOMENT)
     } else {
         entry(p, n, of, What::BottomNil, 0, nil_moment(n, of))
     }
@@ -100,7 +100,7 @@ pub(crate) fn ended(p: u8, n: u16, of: Process, owner: Process, t: u16, next: Ne
         Next::Done => Ended::Call(entry(p, n, of, What::Pushed, node, 2 * n)),
         Next::Node(x) => Ended::Call(node_entry(p, n, of, owner, t, x)),
         Next::Nil => Ended::Call(nil_entry(p, n, of)),
-        Next::Lost => Ended::Call(entry(p, n, of, What::TopLost, 0, log::NO_MOMENT)),
-        Next::Full => Ended::Call(entry(p, n, of, What::Full, node, log::NO_MOMENT)),
+        Next::Lost => Ended::Call(entry(p, n, of, What::TopLost, 0, call_log::NO_MOMENT)),
+        Next::Full => Ended::Call(entry(p, n, of, What::Full, node, call_log::NO_MOMENT)),
     }
 }

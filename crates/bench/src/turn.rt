@@ -30,18 +30,18 @@ pub(crate) fn step_slots(
 fn keep(log: &mut [u8], n: u16, over: Ended) -> u16
     ensures { (log.new ≡ put_entries n (entries_in (ended_in over)) log.old) × (result ≡ length (entries_in (ended_in over))) }
 {
-    let at = log::length_of(n);
+    let at = call_log::length_of(n);
     match over {
         Ended::Nothing => 0,
         Ended::Call(entry) => {
-            log::put_entry(log, at, entry);
+            call_log::put_entry(log, at, entry);
             1
         }
     }
 }
 
 // What the end of a call adds to the counts, and the resets of its queue after it.
-#[derive(Drop)]
+#[derive(Clone, Copy)]
 pub(crate) struct Told {
     pub more: u16,
     pub gone: u16,

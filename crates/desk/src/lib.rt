@@ -1,4 +1,6 @@
 // The desk: one queue stepped by hand, one access a call, its control word altered where it stands.
+#![tactic(auto)]
+
 ghost use Rattle.steps.specs.Step.{StepOn};
 ghost use Rattle.desk.specs.Desk.{AtDesk};
 
@@ -7,14 +9,14 @@ use word::{Stage, Word};
 
 // What the desk gives back: what follows the table's step, the next stage or the result of the call; or a refusal, where nothing was done
 // and the stage is given back as lent.
-#[derive(Drop)]
+#[derive(Clone, Copy)]
 pub enum Answer {
     Stepped(Next),
     Refused(Stage),
 }
 
 // The desk after a step by value: the word, and the answer.
-#[derive(Drop)]
+#[derive(Clone, Copy)]
 pub struct Desk {
     pub word: Word,
     pub answer: Answer,

@@ -1,4 +1,6 @@
 // The desk: one queue stepped by hand, by the lines on standard input. Each line is answered before the next is read.
+#![tactic(auto)]
+
 ghost use Rattle.std.specs.Prelude.{◌≤◌};
 
 use lines::{Line, Sizes};
@@ -15,7 +17,7 @@ const LONG: usize = 257;
 const END: usize = 258;
 
 // The next byte of standard input, if there is one more. Of a read that failed, `stdio::read` has said why.
-#[derive(Drop)]
+#[derive(Clone, Copy)]
 struct Got {
     failed: bool,
     more: bool,
@@ -23,7 +25,7 @@ struct Got {
 }
 
 // The word after a line, and whether there was a line.
-#[derive(Drop)]
+#[derive(Clone, Copy)]
 struct Turn {
     on: bool,
     word: Word,

@@ -6,7 +6,7 @@ use native.Mathlib.Omega.{arith}
 use native.Mathlib.Decide.{dec_lt}
 use borrow.Author.Tests.{eq-eqb, ne_eqb, lt-leb}
 use lib.Dec.{eqb, leb}
-use Rattle.log.specs.Numbers.{push, bottom_pop, top_pop, nil, full, lost, most_result}
+use Rattle.call_log.specs.Numbers.{push, bottom_pop, top_pop, nil, full, lost, most_result}
 use Rattle.rules.specs.Search.{any}
 use Rattle.rules.proofs.SearchLaws.{any_none}
 use Rattle.fields.specs.Inner.Fields.{stands_in, with_node, without_node}

@@ -8,10 +8,10 @@ use borrow.Author.Tests.{eqb-true}
 use lib.Dec.{eqb}
 use types.Run.{OneOf, miss}
 use denote.Enum.Declared.{tag_of}
-use Rattle.log.specs.contracts.What.{the_type}
-use Rattle.log.specs.Numbers.{push, bottom_pop, done, lost, bears_moment, what_of, same, is_top_nil}
-use Rattle.log.specs.declared.What.{What}
-use Rattle.log.specs.declared.What.TheVariants.{Pushed, Full, BottomNode, BottomNil, TopNode, TopNil, TopLost}
+use Rattle.call_log.specs.contracts.What.{the_type}
+use Rattle.call_log.specs.Numbers.{push, bottom_pop, done, lost, bears_moment, what_of, same, is_top_nil}
+use Rattle.call_log.specs.declared.What.{What}
+use Rattle.call_log.specs.declared.What.TheVariants.{Pushed, Full, BottomNode, BottomNil, TopNode, TopNil, TopLost}
 
 -- `what_of` of four tests: whether the kind is a push, whether a bottom pop, whether the result is done, and whether it is a lost race
 abbrev did : Bool → Bool → Bool → Bool → What

@@ -4,8 +4,8 @@ use mathlib.Core.Bool.{Bool, cond}
 use Prim.Native.Nat.{ℕ}
 use lib.Dec.{eqb}
 use Rattle.base.proofs.Settled.{one_value}
-use Rattle.log.specs.declared.Entry.{Entry}
-use Rattle.log.specs.Numbers.{no_moment, what}
+use Rattle.call_log.specs.declared.Entry.{Entry}
+use Rattle.call_log.specs.Numbers.{no_moment, what}
 use Rattle.rules.specs.Rules.{keeps1, in_call}
 use Rattle.fields.specs.Inner.Ends.{ends_after}
 use Rattle.fields.specs.Inner.Took.{took_after}

@@ -9,11 +9,11 @@ use native.Mathlib.Decide.{ℕ_discrete, dec_lt}
 use borrow.Author.Tests.{lt-ltb, ltb-true, ltb-false, eq-eqb, eqb-true, le-leb, leb-true, leb-false}
 use lib.Dec.{eqb, ltb, leb}
 use lib.ListN.{length, get_or}
-use Rattle.log.specs.declared.Entry.{Entry}
-use Rattle.log.specs.declared.What.{What}
-use Rattle.log.specs.declared.What.TheVariants.{BottomNode, TopNode}
-use Rattle.log.specs.Numbers.{what, same, is_top_nil, bears_moment}
-use Rattle.log.proofs.NumbersLaws.{same_true}
+use Rattle.call_log.specs.declared.Entry.{Entry}
+use Rattle.call_log.specs.declared.What.{What}
+use Rattle.call_log.specs.declared.What.TheVariants.{BottomNode, TopNode}
+use Rattle.call_log.specs.Numbers.{what, same, is_top_nil, bears_moment}
+use Rattle.call_log.proofs.NumbersLaws.{same_true}
 use Rattle.rules.specs.Search.{any}
 use Rattle.rules.specs.Contents.{bears, on, before, applied}
 use Rattle.rules.specs.Rules.{is_empty, in_call, empty_within, takes_topmost, removes, has_cause, breaks5}

@@ -9,7 +9,7 @@ use borrow.Author.Tests.{lt-ltb, ltb-true, ltb-false, eq-eqb, eqb-true}
 use lib.Dec.{eqb, ltb}
 use lib.ListN.{length, get_or, set, replicate, length-set}
 use lib.Seq.{get_or-set_same, get_or-set_other}
-use Rattle.log.specs.declared.Entry.{Entry}
+use Rattle.call_log.specs.declared.Entry.{Entry}
 use Rattle.rules.specs.Rules.{clash, breaks2}
 use Rattle.rules.proofs.FieldLaws.{ends_rise, starts_after}
 use Rattle.base.proofs.Bools.{contra, and_i, and_0, and_1, or_e, not_so, not_i, not_e, if_so_lem, so_if, by_both}

@@ -10,10 +10,10 @@ use borrow.Author.Tests.{eq-eqb, ne_eqb}
 use lib.Dec.{ltb}
 use lib.ListN.{length, get_or, set, replicate, length-set}
 use lib.Seq.{get_or-set_same, get_or-set_other}
-use Rattle.log.specs.declared.Entry.{Entry}
-use Rattle.log.specs.declared.What.{What}
-use Rattle.log.specs.declared.What.TheVariants.{Pushed, Full, BottomNode, BottomNil, TopNode, TopNil, TopLost}
-use Rattle.log.specs.Numbers.{what, same}
+use Rattle.call_log.specs.declared.Entry.{Entry}
+use Rattle.call_log.specs.declared.What.{What}
+use Rattle.call_log.specs.declared.What.TheVariants.{Pushed, Full, BottomNode, BottomNil, TopNode, TopNil, TopLost}
+use Rattle.call_log.specs.Numbers.{what, same}
 use Rattle.rules.specs.Search.{first, any}
 use Rattle.rules.specs.Rules.{did, since, breaks6}
 use Rattle.rules.proofs.SearchLaws.{first_none, any_none}

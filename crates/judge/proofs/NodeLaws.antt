@@ -9,9 +9,9 @@ use borrow.Author.Tests.{eq-eqb, ne_eqb}
 use lib.Dec.{eqb}
 use lib.ListN.{length, length-set, replicate, length-replicate}
 use Rattle.base.proofs.Bools.{contra, and_i}
-use Rattle.log.specs.declared.Entry.{Entry}
-use Rattle.log.specs.declared.What.TheVariants.{Pushed}
-use Rattle.log.specs.Numbers.{what, same}
+use Rattle.call_log.specs.declared.Entry.{Entry}
+use Rattle.call_log.specs.declared.What.TheVariants.{Pushed}
+use Rattle.call_log.specs.Numbers.{what, same}
 use Rattle.rules.specs.Search.{any}
 use Rattle.rules.proofs.SearchLaws.{any_i, any_next}
 use Rattle.marks.specs.Inner.Marks.{mark_bytes, marked, with_mark}

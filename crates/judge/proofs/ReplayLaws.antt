@@ -7,8 +7,8 @@ use native.Mathlib.Omega.{arith}
 use native.Mathlib.Decide.{dec_lt}
 use borrow.Author.Tests.{eq-eqb, eqb-true}
 use lib.Dec.{eqb}
-use Rattle.log.specs.declared.Entry.{Entry}
-use Rattle.log.specs.Numbers.{what}
+use Rattle.call_log.specs.declared.Entry.{Entry}
+use Rattle.call_log.specs.Numbers.{what}
 use Rattle.rules.specs.Contents.{bears, on, happens, event_at, before, applied}
 use Rattle.rules.specs.Rules.{lawful_at, breaks4}
 use Rattle.rules.specs.Judge.{worst4, first4}

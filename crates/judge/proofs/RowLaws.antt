@@ -9,11 +9,11 @@ use borrow.Author.Tests.{lt-ltb, ltb-true, eq-eqb, eqb-true, leb-true, leb-false
 use lib.Dec.{eqb, ltb, leb}
 use lib.ListN.{length, get_or, set, take, drop, replicate, length-set}
 use lib.Seq.{slice, get_or-set_same, get_or-set_other, take-set-le, take-set-lt, drop-set-lt}
-use Rattle.log.specs.declared.Entry.{Entry}
-use Rattle.log.specs.declared.What.{What}
-use Rattle.log.specs.declared.What.TheVariants.{Pushed, Full, BottomNode, BottomNil, TopNode, TopNil, TopLost}
-use Rattle.log.specs.Numbers.{what, same, bears_moment}
-use Rattle.log.proofs.NumbersLaws.{same_true}
+use Rattle.call_log.specs.declared.Entry.{Entry}
+use Rattle.call_log.specs.declared.What.{What}
+use Rattle.call_log.specs.declared.What.TheVariants.{Pushed, Full, BottomNode, BottomNil, TopNode, TopNil, TopLost}
+use Rattle.call_log.specs.Numbers.{what, same, bears_moment}
+use Rattle.call_log.proofs.NumbersLaws.{same_true}
 use Rattle.rules.specs.Search.{any}
 use Rattle.rules.specs.Contents.{bears, before, applied}
 use Rattle.rules.specs.Rules.{added_before, fresh, lawful, lawful_at, breaks4}

@@ -8,8 +8,8 @@ use native.Mathlib.Decide.{dec_lt}
 use lib.ListN.{get_or}
 use lib.Seq.{ext_get_or}
 use Rattle.base.proofs.Settled.{one_value}
-use Rattle.log.specs.declared.Entry.{Entry}
-use Rattle.log.specs.Decode.{entry_count_of, entry_at}
+use Rattle.call_log.specs.declared.Entry.{Entry}
+use Rattle.call_log.specs.Decode.{entry_count_of, entry_at}
 use Rattle.rules.specs.declared.Verdict.{Verdict}
 use Rattle.rules.specs.Judge.{judge_of}
 use Rattle.judge.specs.Inner.Orders.{has_order, Orders}

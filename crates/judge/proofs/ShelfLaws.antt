@@ -10,11 +10,11 @@ use borrow.Author.Tests.{lt-ltb, le-ltb, ltb-true, eq-eqb, ne_eqb, eqb-true, eqb
 use lib.Dec.{eqb, ltb, leb}
 use lib.ListN.{length, get_or, replicate, length-set, length-append}
 use lib.Seq.{get_or-set_same, get_or-set_other}
-use Rattle.log.specs.declared.Entry.{Entry}
-use Rattle.log.specs.declared.What.{What}
-use Rattle.log.specs.declared.What.TheVariants.{Pushed, Full, BottomNode, BottomNil, TopNode, TopNil, TopLost}
-use Rattle.log.specs.Numbers.{what, same, bears_moment}
-use Rattle.log.proofs.NumbersLaws.{same_true}
+use Rattle.call_log.specs.declared.Entry.{Entry}
+use Rattle.call_log.specs.declared.What.{What}
+use Rattle.call_log.specs.declared.What.TheVariants.{Pushed, Full, BottomNode, BottomNil, TopNode, TopNil, TopLost}
+use Rattle.call_log.specs.Numbers.{what, same, bears_moment}
+use Rattle.call_log.proofs.NumbersLaws.{same_true}
 use Rattle.rules.specs.Contents.{bears, before, applied, drop_last, drop_first}
 use Rattle.rules.specs.Rules.{is_empty}
 use Rattle.base.proofs.Bools.{contra, and_i, and_0, and_1}

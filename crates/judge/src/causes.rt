@@ -1,6 +1,6 @@
 // Rule 5: one pass in file order over the NIL top pops, whose ends rise; the calls up to each one's end are gone through by rising moments.
 ghost use Rattle.std.specs.Prelude.{◌≡◌, ◌&&◌, cond, ◌+◌, ◌*◌, ◌^◌, ◌≤◌, ◌<◌, ltb, leb, length};
-ghost use Rattle.log.specs.Decode.{entry_at};
+ghost use Rattle.call_log.specs.Decode.{entry_at};
 ghost use Rattle.rules.specs.Judge.{first5};
 ghost use Rattle.keys.specs.Inner.Keys.{moment_at, index_at};
 ghost use Rattle.judge.specs.Inner.Order.{Whole};
@@ -8,7 +8,7 @@ ghost use Rattle.judge.specs.Inner.Causes.{shelf_after, passed_by, Passable, unc
 
 use crate::read::entry;
 use fields::{choose, took_after, top_nil};
-use log::{Entry, What};
+use call_log::{Entry, What};
 
 // A shelf is this many times how many nodes its queue holds, plus the moment at which it was filled.
 const SHELVED: u32 = 65536;
@@ -18,7 +18,7 @@ fn shelf_after(e: Entry, shelf: u32) -> u32
     requires { shelf < 2 ^ 31 }
     ensures { result ≡ shelf_after e shelf }
 {
-    let did = log::what_of(e.kind, e.result);
+    let did = call_log::what_of(e.kind, e.result);
     match did {
         What::Pushed => {
             if shelf < SHELVED {

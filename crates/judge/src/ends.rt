@@ -1,6 +1,6 @@
 // Rule 2: one pass in file order, with the last end of all and that of each process.
 ghost use Rattle.std.specs.Prelude.{◌≡◌, ◌≤◌};
-ghost use Rattle.log.specs.Decode.{entry_at};
+ghost use Rattle.call_log.specs.Decode.{entry_at};
 ghost use Rattle.rules.specs.Judge.{first2};
 ghost use Rattle.judge.specs.Inner.Order.{Fields, Whole};
 

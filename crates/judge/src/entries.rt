@@ -1,6 +1,6 @@
 // Rule 1: one pass in file order, each entry by itself.
 ghost use Rattle.std.specs.Prelude.{◌≡◌, ◌≤◌};
-ghost use Rattle.log.specs.Decode.{entry_at};
+ghost use Rattle.call_log.specs.Decode.{entry_at};
 ghost use Rattle.rules.specs.Judge.{first1};
 ghost use Rattle.judge.specs.Inner.Order.{Whole};
 

@@ -1,7 +1,7 @@
 // Rule 6: one pass in file order. A NIL bottom pop begins its queue's counts anew.
 ghost use Rattle.std.specs.Prelude.{◌≡◌, ◌^◌, ◌≤◌, ◌<◌};
-ghost use Rattle.log.specs.Numbers.{what as what_is};
-ghost use Rattle.log.specs.Decode.{entry_at};
+ghost use Rattle.call_log.specs.Numbers.{what as what_is};
+ghost use Rattle.call_log.specs.Decode.{entry_at};
 ghost use Rattle.rules.specs.Search.{any};
 ghost use Rattle.rules.specs.Judge.{first6};
 ghost use Rattle.judge.specs.Inner.Order.{Fields, Whole, is_full};
@@ -9,14 +9,14 @@ ghost use Rattle.judge.specs.Inner.Full.{counts_after};
 
 use crate::read::entry;
 use fields::{UPPER, full};
-use log::{Entry, What};
+use call_log::{Entry, What};
 
 // What a call makes of its queue's counts: 65,536 times the done pushes plus the nodes taken at the bottom.
 fn counts_after(e: Entry, counts: usize) -> usize
     requires { counts < 2 ^ 32 }
     ensures { result ≡ counts_after (what_is e) counts }
 {
-    let did = log::what_of(e.kind, e.result);
+    let did = call_log::what_of(e.kind, e.result);
     match did {
         What::Pushed => counts + UPPER,
         What::BottomNode => counts + 1,

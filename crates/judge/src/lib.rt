@@ -1,6 +1,8 @@
 // The judge of a log. It reads the log alone: each rule is one pass over the entries, in file order or by rising moments.
+#![tactic(auto)]
+
 ghost use Rattle.std.specs.Prelude.{◌≡◌, ◌≤◌, ◌<◌, length};
-ghost use Rattle.log.specs.Decode.{entry_at};
+ghost use Rattle.call_log.specs.Decode.{entry_at};
 ghost use Rattle.judge.specs.Inner.Order.{Fields, EndsKept, Whole, is_full};
 ghost use Rattle.judge.specs.Inner.Replay.{Roomy};
 ghost use Rattle.judge.specs.Inner.Causes.{Clean, Kept34};
@@ -119,19 +121,19 @@ fn last_rules(
 fn head_right(count: u8, p: u8, slots: u8, n: usize) -> bool
     ensures { result ≡ head_right count p slots n }
 {
-    (count == log::SECTION_COUNT)
+    (count == call_log::SECTION_COUNT)
         & (1 <= p)
         & (p <= 8)
         & (1 <= slots)
         & (slots <= 64)
-        & (n <= log::MOST_ENTRIES)
+        & (n <= call_log::MOST_ENTRIES)
 }
 
 // The judge, of any bytes.
 pub fn judge(log: &[u8]) -> Verdict
     ensures { result ≡ judge_of log.now }
 {
-    if log.len() < log::HEAD_LENGTH {
+    if log.len() < call_log::HEAD_LENGTH {
         return verdict_of(11, 0);
     }
     let count = base::byte_at(log, 0);
@@ -143,7 +145,7 @@ pub fn judge(log: &[u8]) -> Verdict
     if !right {
         return verdict_of(12, 0);
     }
-    let whole = log::length_of(entries);
+    let whole = call_log::length_of(entries);
     if log.len() < whole {
         return verdict_of(11, 0);
     }

@@ -1,6 +1,6 @@
 // Whether rule 4 has to compare the nodes that are pushed: not where a table of marks says that they differ.
 ghost use Rattle.std.specs.Prelude.{◌≡◌, true, false, ◌≤◌};
-ghost use Rattle.log.specs.Decode.{entry_at};
+ghost use Rattle.call_log.specs.Decode.{entry_at};
 ghost use Rattle.judge.specs.Inner.Order.{Whole};
 ghost use Rattle.judge.specs.Inner.Replay.{Differ};
 

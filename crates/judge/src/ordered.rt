@@ -22,8 +22,8 @@ pub fn in_order(log: &[u8], keys: &mut [usize; 256]) -> usize
     *keys = [0; 256];
     let entries = base::number_at(log, 3);
     let n = entries as usize;
-    let whole = log::length_of(entries);
-    if !((n <= log::MOST_ENTRIES) & (log.len() == whole)) {
+    let whole = call_log::length_of(entries);
+    if !((n <= call_log::MOST_ENTRIES) & (log.len() == whole)) {
         return 0;
     }
     let sorted = by_moment(log, n, keys);

@@ -1,9 +1,9 @@
 // An entry that stands whole in the log, read without tests. Each rule reads every entry, so reading is half of the work.
 ghost use Rattle.std.specs.Prelude.{◌≡◌, ◌+◌, ◌*◌, ◌^◌, ◌<◌, ◌≤◌, length};
 ghost use Rattle.base.specs.Bytes.{number_at};
-ghost use Rattle.log.specs.Decode.{first_entry, entry_at};
+ghost use Rattle.call_log.specs.Decode.{first_entry, entry_at};
 
-use log::Entry;
+use call_log::Entry;
 
 // The number of two bytes at a place within.
 fn number(bytes: &[u8], at: usize) -> u16

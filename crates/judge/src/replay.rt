@@ -1,8 +1,8 @@
 // Rule 4: all queues at once, by rising moments. Queue q's nodes lie in the q-th row, from lo, the top, up to hi; its ends are 65,536 × hi + lo. In a ninth
 // row lie all nodes that were pushed.
 ghost use Rattle.std.specs.Prelude.{◌≡◌, false, ◌+◌, ◌^◌, ◌/◌, ◌≤◌, ◌<◌, eqb, get_or, length};
-ghost use Rattle.log.specs.Numbers.{what as what_is};
-ghost use Rattle.log.specs.Decode.{entry_at};
+ghost use Rattle.call_log.specs.Numbers.{what as what_is};
+ghost use Rattle.call_log.specs.Decode.{entry_at};
 ghost use Rattle.rules.specs.Search.{any};
 ghost use Rattle.rules.specs.Rules.{lawful as lawful_is};
 ghost use Rattle.rules.specs.Judge.{first4};
@@ -11,7 +11,7 @@ ghost use Rattle.judge.specs.Inner.Replay.{Differ, new_in, held_in, Roomy};
 
 use crate::read::entry;
 use fields::{UPPER, choose, moved, pushed};
-use log::{Entry, What};
+use call_log::{Entry, What};
 
 // Whether a node is among the pushed ones, which lie from here. It looks at all of them, without a test to leave, so that many are compared at once.
 fn pushed_in(nodes: &[u16], from: usize, count: usize, node: u16) -> bool
@@ -36,7 +36,7 @@ fn lawful(nodes: &[u16], row: usize, ends: usize, from: usize, count: usize, e: 
 {
     let lo = row + ends % UPPER;
     let hi = row + ends / UPPER;
-    let did = log::what_of(e.kind, e.result);
+    let did = call_log::what_of(e.kind, e.result);
     match did {
         What::Pushed => !pushed_in(nodes, from, count, e.node),
         What::BottomNode => {

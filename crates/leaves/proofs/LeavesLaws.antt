@@ -8,9 +8,9 @@ use native.Mathlib.Omega.{arith}
 use borrow.Author.Tests.{le-leb, eq-eqb}
 use lib.ListN.{length, set, take, drop, replicate, length-set}
 use lib.Seq.{slice, slice_empty, take-nil}
-use Rattle.log.specs.declared.Entry.{Entry}
-use Rattle.log.specs.Numbers.{what}
-use Rattle.log.specs.Decode.{log_length, entry_count_of, entry_at}
+use Rattle.call_log.specs.declared.Entry.{Entry}
+use Rattle.call_log.specs.Numbers.{what}
+use Rattle.call_log.specs.Decode.{log_length, entry_count_of, entry_at}
 use Rattle.rules.specs.Contents.{before, applied}
 use Rattle.rules.specs.declared.Verdict.{Verdict}
 use Rattle.rules.specs.Judge.{first3, judge_of}

@@ -1,6 +1,8 @@
 // What is left in a queue: its calls by rising moment, from an empty row. Its nodes lie from lo, the top, up to hi; its ends are 65,536 × hi + lo.
+#![tactic(auto)]
+
 ghost use Rattle.std.specs.Prelude.{◌≡◌, ◌≤◌, length};
-ghost use Rattle.log.specs.Decode.{entry_count_of, entry_at};
+ghost use Rattle.call_log.specs.Decode.{entry_count_of, entry_at};
 ghost use Rattle.rules.specs.Left.{Leaves};
 ghost use Rattle.fields.specs.Inner.Ends.{lo_of, hi_of};
 ghost use Rattle.judge.specs.Inner.Order.{Ordered};
@@ -9,7 +11,7 @@ ghost use Rattle.leaves.specs.Inner.Lies.{LiesIn};
 use fields::UPPER;
 
 // The judge's number where the log's calls have no order, else 0; and how many nodes are left.
-#[derive(Drop)]
+#[derive(Clone, Copy)]
 pub struct Remaining {
     pub number: u8,
     pub count: u16,
@@ -27,7 +29,7 @@ fn replayed(log: &[u8], queue: u8, keys: &[usize; 256], count: usize, row: &mut 
     let mut k: usize = 0;
     while k < count {
         let key = keys[k];
-        let e = log::entry_at(log, key % 256);
+        let e = call_log::entry_at(log, key % 256);
         k = k + 1;
         if e.queue != queue {
             continue;

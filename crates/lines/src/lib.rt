@@ -1,4 +1,6 @@
 // What a line typed at the desk says: first W and C, then a stage a line, with document 01's names and numbers.
+#![tactic(auto)]
+
 ghost use Rattle.std.specs.Prelude.{◌≡◌};
 ghost use Rattle.lines.specs.Line.{taken as taken_as, bottom_of, top_of, stage_of, line_of, sizes_of};
 
@@ -37,14 +39,14 @@ const B6: u64 = 0x14236;
 const B7: u64 = 0x14237;
 
 // What a stage line says, or what is wrong with it.
-#[derive(Drop)]
+#[derive(Clone, Copy)]
 pub enum Line {
     Stage(Stage),
     Wrong(Why),
 }
 
 // Nothing on the line; no such stage; not that many numbers for the stage that was meant; a word that is no number there.
-#[derive(Drop)]
+#[derive(Clone, Copy)]
 pub enum Why {
     Nothing,
     NoStage,
@@ -53,14 +55,14 @@ pub enum Why {
 }
 
 // What a line of W and C says, or what is wrong with it.
-#[derive(Drop)]
+#[derive(Clone, Copy)]
 pub enum Sizes {
     Good { width: u8, size: u8 },
     Wrong(SizesWhy),
 }
 
 // Nothing on the line; not two words; W is no number from 0 to 16; C is no number from 1 to 64.
-#[derive(Drop)]
+#[derive(Clone, Copy)]
 pub enum SizesWhy {
     Nothing,
     NotTwo,

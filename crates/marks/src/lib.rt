@@ -1,4 +1,6 @@
 // The table of marks: a bit for each node, so that a repeat is found without a second look at the calls before it.
+#![tactic(auto)]
+
 ghost use Rattle.std.specs.Prelude.{◌≡◌};
 ghost use Rattle.marks.specs.Inner.Marks.{marked, with_mark};
 

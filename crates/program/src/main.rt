@@ -1,5 +1,7 @@
 // The program: with no argument it runs the run file on standard input and prints its log, its counts and the judge's number; with `left` it prints
 // the nodes left in each queue in place of the log; with `judge` it judges the log on standard input.
+#![tactic(auto)]
+
 use libc::{STDERR_FILENO, STDOUT_FILENO};
 
 mod print; // lines of numbers
@@ -12,7 +14,7 @@ const FILE_BYTES: usize = 4881;
 
 // One byte more than the longest log. The rest of a longer one is not read, and its reply is that of these bytes: the first five decide 12, and
 // if that is not given there are at most 256 entries, so that a byte stands after them, which is 13.
-const JUDGED_BYTES: usize = log::LONGEST_LOG + 1;
+const JUDGED_BYTES: usize = call_log::LONGEST_LOG + 1;
 
 // The log, or what it leaves in each queue, its counts and the judge's number.
 fn print_run(log: &[u8], entries: u16, steps: u16, gone: u16, left: bool) {
@@ -27,7 +29,7 @@ fn print_run(log: &[u8], entries: u16, steps: u16, gone: u16, left: bool) {
 }
 
 fn run_file(file: &[u8], left: bool) {
-    let mut buffer = [0u8; log::LONGEST_LOG];
+    let mut buffer = [0u8; call_log::LONGEST_LOG];
     let mut report = [0u16; 4];
     let mut table = [0u16; bench::TABLE_SIZE];
     let log = bench::run(file, &mut buffer, &mut report, &mut table);

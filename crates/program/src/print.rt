@@ -1,5 +1,5 @@
 // What the program prints: numbers, separated by single spaces, a line at a time.
-use log::Entry;
+use call_log::Entry;
 use stdio::{each, last, line, number, text};
 
 // Process, queue, kind, result, node, start, end, moment.
@@ -22,7 +22,7 @@ fn entry(of: Entry) {
 pub(crate) fn entries(log: &[u8], count: u16) {
     let mut i: u16 = 0;
     while i < count {
-        entry(log::entry_at(log, i as usize));
+        entry(call_log::entry_at(log, i as usize));
         i = i + 1;
     }
 }

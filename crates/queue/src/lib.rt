@@ -1,5 +1,7 @@
 // The step of the queue: document 01's table, one shared access with the local work after it, by value.
 // It knows nothing of how slots lie, of processes or of runs.
+#![tactic(auto)]
+
 ghost use Rattle.std.specs.Prelude.{◌≡◌};
 ghost use Rattle.steps.specs.Step.{loaded_slot, loaded, stored};
 ghost use Rattle.steps.specs.Packed.{StepPacked};

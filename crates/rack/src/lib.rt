@@ -1,4 +1,6 @@
 // A rack of files: many run files in one call, each run and judged as it would be singly.
+#![tactic(auto)]
+
 ghost use Rattle.std.specs.Prelude.{◌≡◌, ◌%◌};
 ghost use Rattle.base.specs.Bytes.{put_at};
 ghost use Rattle.racks.specs.Rack.{judged as judged_of, rack_of, reply_bytes};

@@ -1,5 +1,7 @@
 // The rack: runs the files of a rack on standard input and prints a line a file, its number, entries, steps, gone-round takes and the judge's number;
 // or `refused` and the number of what is no rack.
+#![tactic(auto)]
+
 use stdio::{last, line, text};
 
 // As much as is read, and as many files as are replied to: whoever packs more makes two racks. A longer rack, of whose end nothing is known, is not run.
@@ -32,7 +34,7 @@ fn print_replies(replies: &[u8], count: u16) {
 }
 
 fn run_rack(files: &[u8]) {
-    let mut log = [0u8; log::LONGEST_LOG];
+    let mut log = [0u8; call_log::LONGEST_LOG];
     let mut replies = [0u8; REPLY_BYTES * MOST_FILES];
     let refused = rack::rack(files, &mut log, &mut replies);
     if refused != 0 {

@@ -1,6 +1,6 @@
 -- The worked racks, computed on the definitions: bytes in; number, replies and log buffer out.
 use Rattle.base.specs.Words.{ℕ, List, [], ◌∷◌, ◌++◌, map, drop, replicate, ◌≡◌, refl}
-use Rattle.log.specs.{Decode.entry_at, Encode.log_bytes}
+use Rattle.call_log.specs.{Decode.entry_at, Encode.log_bytes}
 use Rattle.rules.specs.Contents.{before}
 use Rattle.runs.specs.{Run.run_of, Worked.K1, Worked.K4, Worked.K8}
 use Rattle.racks.specs.Rack.{Answer, refusal, rack_of, rack_bytes, answer_to}

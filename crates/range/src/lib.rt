@@ -1,4 +1,6 @@
 // What can be stepped: document 01's conditions at the desk.
+#![tactic(auto)]
+
 ghost use Rattle.std.specs.Prelude.{◌≡◌};
 ghost use Rattle.word.specs.Tag.{is_tag};
 ghost use Rattle.word.specs.Range.{sizes_in, age_in, word_in, take_in, pop_in, stage_in, in_range};

@@ -1,4 +1,6 @@
 // The reader of run files: a file is refused by its number, or good. What its bytes say is defined in crate runfile.
+#![tactic(auto)]
+
 ghost use Rattle.runfile.specs.File.{Reads};
 
 mod calls; // section 3's calls: the first that is wrong

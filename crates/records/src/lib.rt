@@ -1,4 +1,6 @@
 // What the bench keeps of a run: the record of a process, before and after its step, where slots lie, and what a refused file gives.
+#![tactic(auto)]
+
 mod refusal; // what a refused file gives
 mod slots; // where the slots of a queue lie
 mod turn; // a process before and after its step
@@ -22,7 +24,7 @@ pub const TABLE_SIZE: usize = 8 * TABLE_ROW;
 
 // A process: where it stands in its call, the call, which call of the file is its next and where its script stops; and of the
 // call its start, its step B2, and the resets that its queue had at T1.
-#[derive(Drop)]
+#[derive(Clone, Copy)]
 pub struct Process {
     pub stage: Stage,
     pub call: Call,

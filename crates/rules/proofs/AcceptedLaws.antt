@@ -9,15 +9,15 @@ use borrow.Author.Tests.{lt-ltb, le-ltb, ltb-true, ltb-false, le-leb, leb-true, 
 use lib.Dec.{ltb, leb, eqb}
 use lib.ListN.{length}
 use Rattle.base.specs.Bytes.{Bytes}
-use Rattle.log.specs.declared.Entry.{Entry}
-use Rattle.log.specs.declared.What.{What}
-use Rattle.log.specs.declared.What.TheVariants.{Pushed, Full, BottomNode, BottomNil, TopNode, TopNil, TopLost}
-use Rattle.log.specs.Numbers.{bears_moment, what, same, is_top_nil}
-use Rattle.log.proofs.NumbersLaws.{same_of, same_true}
-use Rattle.log.specs.Decode.{section_count_of, processes_of, slots_of, entry_count_of, entry_at}
-use Rattle.log.specs.Encode.{Log, section_count, InRange, log_bytes}
-use Rattle.log.proofs.EncodeLaws.{decoded, entry_decoded, processes_decoded, slots_decoded, entry_count_decoded, whole_encoded, encode_decode}
-use Rattle.log.proofs.EncodeLaws.{in_range_lem}
+use Rattle.call_log.specs.declared.Entry.{Entry}
+use Rattle.call_log.specs.declared.What.{What}
+use Rattle.call_log.specs.declared.What.TheVariants.{Pushed, Full, BottomNode, BottomNil, TopNode, TopNil, TopLost}
+use Rattle.call_log.specs.Numbers.{bears_moment, what, same, is_top_nil}
+use Rattle.call_log.proofs.NumbersLaws.{same_of, same_true}
+use Rattle.call_log.specs.Decode.{section_count_of, processes_of, slots_of, entry_count_of, entry_at}
+use Rattle.call_log.specs.Encode.{Log, section_count, InRange, log_bytes}
+use Rattle.call_log.proofs.EncodeLaws.{decoded, entry_decoded, processes_decoded, slots_decoded, entry_count_decoded, whole_encoded, encode_decode}
+use Rattle.call_log.proofs.EncodeLaws.{in_range_lem}
 use Rattle.rules.specs.declared.Verdict.{Verdict}
 use Rattle.rules.specs.Search.{any}
 use Rattle.rules.specs.Contents.{bears, on, before}

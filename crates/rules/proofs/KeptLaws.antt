@@ -5,7 +5,7 @@ use Prim.Native.Nat.{ℕ, ◌≤◌, ◌<◌}
 use native.Mathlib.Omega.{arith}
 use native.Mathlib.Decide.{dec_lt}
 use borrow.Author.Tests.{eq-eqb}
-use Rattle.log.specs.declared.Entry.{Entry}
+use Rattle.call_log.specs.declared.Entry.{Entry}
 use Rattle.rules.specs.Search.{any}
 use Rattle.rules.specs.Contents.{bears}
 use Rattle.rules.specs.Rules.{keeps1, breaks1, clash, breaks2, moment_right, bears_at, breaks3}

@@ -9,12 +9,12 @@ use native.Mathlib.Decide.{dec_lt, ℕ_discrete}
 use borrow.Author.Tests.{lt-ltb, le-ltb, ltb-true, ltb-false, eq-eqb, eqb-true, leb-true, leb-false}
 use lib.Dec.{eqb, ltb, leb}
 use lib.ListN.{length}
-use Rattle.log.specs.declared.Entry.{Entry}
-use Rattle.log.specs.declared.What.{What}
-use Rattle.log.specs.declared.What.TheVariants.{Pushed, Full, BottomNode, BottomNil, TopNode, TopNil, TopLost}
-use Rattle.log.specs.Numbers.{what, same, bears_moment}
-use Rattle.log.specs.Decode.{section_count_of, processes_of, slots_of, entry_count_of, entry_at}
-use Rattle.log.proofs.NumbersLaws.{same_true}
+use Rattle.call_log.specs.declared.Entry.{Entry}
+use Rattle.call_log.specs.declared.What.{What}
+use Rattle.call_log.specs.declared.What.TheVariants.{Pushed, Full, BottomNode, BottomNil, TopNode, TopNil, TopLost}
+use Rattle.call_log.specs.Numbers.{what, same, bears_moment}
+use Rattle.call_log.specs.Decode.{section_count_of, processes_of, slots_of, entry_count_of, entry_at}
+use Rattle.call_log.proofs.NumbersLaws.{same_true}
 use Rattle.rules.specs.Search.{count, sum_to}
 use Rattle.rules.specs.Contents.{bears, drop_last, applied, on, happens, event_at, before}
 use Rattle.rules.specs.Judge.{says, first1, first2, first3, first4, first5, first6, or_else, judge_of}

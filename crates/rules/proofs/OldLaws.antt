@@ -7,13 +7,13 @@ use Prim.Native.Nat.{ℕ, zero, suc, ◌+◌, ◌*◌}
 use borrow.Author.Tests.{eqb-true}
 use lib.Dec.{ltb, eqb}
 use lib.ListN.{length}
-use Rattle.log.specs.declared.Entry.{Entry}
-use Rattle.log.specs.declared.What.{What}
-use Rattle.log.specs.declared.What.TheVariants.{Pushed, Full, BottomNode, BottomNil, TopNil, TopLost}
-use Rattle.log.specs.Numbers.{top_pop, nil, lost, no_moment, what, same, is_top_nil}
-use Rattle.log.specs.Decode.{head_length, log_length}
-use Rattle.log.specs.Encode.{Log, section_count, log_bytes}
-use Rattle.log.proofs.EncodeLaws.{processes_decoded, slots_decoded, entry_count_decoded, length_log, whole_encoded}
+use Rattle.call_log.specs.declared.Entry.{Entry}
+use Rattle.call_log.specs.declared.What.{What}
+use Rattle.call_log.specs.declared.What.TheVariants.{Pushed, Full, BottomNode, BottomNil, TopNil, TopLost}
+use Rattle.call_log.specs.Numbers.{top_pop, nil, lost, no_moment, what, same, is_top_nil}
+use Rattle.call_log.specs.Decode.{head_length, log_length}
+use Rattle.call_log.specs.Encode.{Log, section_count, log_bytes}
+use Rattle.call_log.proofs.EncodeLaws.{processes_decoded, slots_decoded, entry_count_decoded, length_log, whole_encoded}
 use Rattle.rules.specs.declared.Verdict.{Verdict}
 use Rattle.rules.specs.Search.{first, any, lowest}
 use Rattle.rules.proofs.SearchLaws.{any_from}

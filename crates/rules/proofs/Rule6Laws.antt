@@ -12,11 +12,11 @@ use lib.ListN.{length}
 use Rattle.base.specs.Lists.{In, All, Pairs}
 use Rattle.base.proofs.Lists.{all_map, in_all}
 use Rattle.base.proofs.Bools.{contra, and_i, and_0, and_1}
-use Rattle.log.specs.declared.Entry.{Entry}
-use Rattle.log.specs.declared.What.{What}
-use Rattle.log.specs.declared.What.TheVariants.{Pushed, Full, BottomNode, BottomNil}
-use Rattle.log.specs.Numbers.{push, bottom_pop, kind_of, what, same}
-use Rattle.log.proofs.NumbersLaws.{same_of, same_true}
+use Rattle.call_log.specs.declared.Entry.{Entry}
+use Rattle.call_log.specs.declared.What.{What}
+use Rattle.call_log.specs.declared.What.TheVariants.{Pushed, Full, BottomNode, BottomNil}
+use Rattle.call_log.specs.Numbers.{push, bottom_pop, kind_of, what, same}
+use Rattle.call_log.proofs.NumbersLaws.{same_of, same_true}
 use Rattle.rules.specs.Contents.{bears}
 use Rattle.rules.specs.Rules.{did, since}
 use Rattle.rules.specs.Accepted.{Rule1, Rule2, Rule3, Lists, Counts, Rule6, time, SameByMoments}

@@ -7,9 +7,9 @@ use native.Mathlib.Omega.{arith}
 use borrow.Author.Tests.{lt-ltb, le-ltb, leb-true}
 use lib.Dec.{leb, eqb}
 use lib.ListN.{length}
-use Rattle.log.specs.declared.Entry.{Entry}
-use Rattle.log.specs.Decode.{section_count_of, processes_of, slots_of, entry_count_of, entry_at}
-use Rattle.log.specs.Encode.{section_count}
+use Rattle.call_log.specs.declared.Entry.{Entry}
+use Rattle.call_log.specs.Decode.{section_count_of, processes_of, slots_of, entry_count_of, entry_at}
+use Rattle.call_log.specs.Encode.{section_count}
 use Rattle.rules.specs.declared.Verdict.{Verdict}
 use Rattle.rules.specs.Judge.{says, first1, first2, first3, first4, first5, first6, moment_rules_of, rules_of, head_right, judge_of}
 use Rattle.base.proofs.Bools.{and_0, and_1}

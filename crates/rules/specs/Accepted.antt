@@ -1,9 +1,9 @@
 -- The rules read aloud, to compare with document 01, "What the judge accepts"; the judge's number is 0 exactly for such a log (`judged_0`).
 use Rattle.base.specs.Words.{ℕ, suc, ◌+◌, ◌*◌, ◌<◌, ◌≤◌, true, false, cond, List, [], ◌∷◌, ◌++◌, length, get_or, ◌⊎◌, ◌↔◌, ◌≡◌}
 use Rattle.base.specs.{Bytes.Bytes, Lists.In, Lists.All, Lists.Pairs}
-use Rattle.log.specs.{declared.Entry.Entry, declared.What.What, Decode.first_entry, Encode.Log, Encode.InRange, Encode.log_bytes}
-use Rattle.log.specs.declared.What.TheVariants.{Pushed, Full, BottomNode, BottomNil, TopNode, TopNil, TopLost}
-use Rattle.log.specs.Numbers.{push, bottom_pop, top_pop, nil, full, lost, most_result, no_moment, what, is_top_nil}
+use Rattle.call_log.specs.{declared.Entry.Entry, declared.What.What, Decode.first_entry, Encode.Log, Encode.InRange, Encode.log_bytes}
+use Rattle.call_log.specs.declared.What.TheVariants.{Pushed, Full, BottomNode, BottomNil, TopNode, TopNil, TopLost}
+use Rattle.call_log.specs.Numbers.{push, bottom_pop, top_pop, nil, full, lost, most_result, no_moment, what, is_top_nil}
 use Rattle.rules.specs.{Contents.bears, Contents.before, Rules.last_end, Judge.judge_of}
 
 -- NIL is 0, and 3 at T4

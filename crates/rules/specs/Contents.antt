@@ -1,7 +1,7 @@
 -- Which nodes each queue holds at each instant, by the calls' moments alone. A log is f, from an entry's index to the entry, with n entries.
 use Rattle.base.specs.Words.{ℕ, zero, suc, Bool, cond, ◌&&◌, ltb, eqb, List, [], ◌∷◌, ◌++◌}
-use Rattle.log.specs.{declared.Entry.Entry, declared.What.What, Numbers.bears_moment, Numbers.what}
-use Rattle.log.specs.declared.What.TheVariants.{Pushed, Full, BottomNode, BottomNil, TopNode, TopNil, TopLost}
+use Rattle.call_log.specs.{declared.Entry.Entry, declared.What.What, Numbers.bears_moment, Numbers.what}
+use Rattle.call_log.specs.declared.What.TheVariants.{Pushed, Full, BottomNode, BottomNil, TopNode, TopNil, TopLost}
 use Rattle.rules.specs.Search.{first}
 
 -- whether the list of moments in document 01, "The log", has one for such a call

@@ -15,7 +15,7 @@ const POP: u8 = 2;
 const TAKE: u8 = 3;
 
 // A call as its three bytes have it.
-#[derive(Drop)]
+#[derive(Clone, Copy)]
 struct CallBytes {
     code: u8,
     argument: u16,

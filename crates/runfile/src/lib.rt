@@ -1,4 +1,5 @@
 // The run file of document 01: what its bytes say, read in place. What refuses a file is tested in crate reader.
+#![tactic(auto)]
 
 mod calls; // section 3's calls, each by its code and argument
 mod places; // where the bytes stand
@@ -10,7 +11,7 @@ pub use crate::places::{
 };
 
 // A call of a script.
-#[derive(Drop)]
+#[derive(Clone, Copy)]
 pub enum Call {
     Push(u16),
     Pop,
@@ -18,14 +19,14 @@ pub enum Call {
 }
 
 // What the three bytes of a call say: a call, or the number that refuses them.
-#[derive(Drop)]
+#[derive(Clone, Copy)]
 pub enum Coded {
     Right(Call),
     Wrong(u8),
 }
 
 // What a file's sections count: W, C, P, the calls and the steps of the schedule.
-#[derive(Drop)]
+#[derive(Clone, Copy)]
 pub struct Shape {
     pub width: u8,
     pub size: u8,
@@ -35,7 +36,7 @@ pub struct Shape {
 }
 
 // What reading a file gives: the number that refuses it, or what it counts.
-#[derive(Drop)]
+#[derive(Clone, Copy)]
 pub enum Reading {
     Refused(u8),
     Good(Shape),

@@ -12,8 +12,8 @@ use lib.ListN.{length, get_or, take, drop, set, length-take, length-drop, length
 use lib.Seq.{take-nil, take-suc, get_or-take, get_or-drop, get_or-set_same, get_or-set_other}
 use Rattle.base.specs.Lists.{list_of}
 use Rattle.base.proofs.Lists.{list_of_get_d}
-use Rattle.log.specs.Numbers.{push, bottom_pop, top_pop}
-use Rattle.log.specs.declared.Entry.{Entry}
+use Rattle.call_log.specs.Numbers.{push, bottom_pop, top_pop}
+use Rattle.call_log.specs.declared.Entry.{Entry}
 use Rattle.word.specs.Stages.{row_number, is_idle}
 use Rattle.steps.specs.Step.{same_age, row_of, loaded, loaded_slot, stage_after}
 use Rattle.steps.specs.declared.Next.{Next}

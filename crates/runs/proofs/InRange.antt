@@ -17,7 +17,7 @@ use Rattle.runfile.specs.File.{RunFile, Answer, refused, good, file_of}
 use Rattle.runfile.proofs.NumberLaws.{refused_few}
 use Rattle.runfile.proofs.RangeLaws.{good_ranges}
 use Rattle.runs.specs.Moment.{queue_of}
-use Rattle.log.specs.Decode.{log_length}
+use Rattle.call_log.specs.Decode.{log_length}
 use Rattle.runs.specs.Run.{Outcome, refusal, finished, closed, outcome, run_of}
 use Rattle.word.specs.Stages.{is_idle}
 use Rattle.steps.specs.declared.Load.TheVariants as load

@@ -11,7 +11,7 @@ use borrow.Author.Tests.{ltb-true, lt-ltb, le-ltb, lt-leb, ne_eqb}
 use Rattle.base.specs.Lists.{All}
 use Rattle.base.proofs.Lists.{all_snoc}
 use Rattle.base.proofs.Cases.{either_way, ever, if_set}
-use Rattle.log.specs.declared.Entry.{Entry}
+use Rattle.call_log.specs.declared.Entry.{Entry}
 use Rattle.word.specs.Stages.{is_idle}
 use Rattle.word.specs.Inner.StepsLeft.{steps_left}
 use Rattle.word.specs.declared.Stage.{Stage}

@@ -18,7 +18,7 @@ use Rattle.steps.specs.declared.Stepped.{Stepped}
 use Rattle.steps.specs.declared.Store.{Store}
 use Rattle.steps.specs.declared.Store.TheVariants as store
 use Rattle.runfile.specs.declared.Call.{Call}
-use Rattle.log.specs.declared.Entry.{Entry}
+use Rattle.call_log.specs.declared.Entry.{Entry}
 use Rattle.runfile.specs.declared.Call.TheVariants.{Push, Pop, Take}
 use Rattle.runs.specs.Moment.{queue_of}
 use Rattle.runs.specs.State.{Process, Queue, State, fresh, nobody, queue_at, process_at, start}

@@ -1,7 +1,7 @@
 -- A whole run, from the bytes of its file and the length of the log buffer to everything that it gives.
 use Rattle.base.specs.Words.{ℕ, zero, suc, ◌+◌, ◌*◌, ◌/◌, ◌%◌, cond, ltb, List, [], ◌∷◌, length, get_or, replicate}
 use Rattle.base.specs.Lists.{list_of}
-use Rattle.log.specs.{Decode.log_length, Encode.log_bytes}
+use Rattle.call_log.specs.{Decode.log_length, Encode.log_bytes}
 use Rattle.word.specs.{Stages.is_idle, declared.Word.Word}
 use Rattle.runfile.specs.{File.RunFile, File.most_size, File.Answer, File.refused, File.good, File.file_of, declared.Call.Call}
 use Rattle.runs.specs.State.{Bench, Process, State, queue_count, start, queue_at, process_at}

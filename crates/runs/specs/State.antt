@@ -1,7 +1,7 @@
 -- The state of a run, and its start.
 use Rattle.base.specs.Words.{ℕ, suc, List, [], get_or, take, replicate}
 use Rattle.base.specs.Lists.{list_of}
-use Rattle.log.specs.declared.Entry.{Entry}
+use Rattle.call_log.specs.declared.Entry.{Entry}
 use Rattle.word.specs.{declared.Word.Word, declared.Stage.Stage, declared.Stage.TheVariants.Idle}
 use Rattle.runfile.specs.{declared.Call.Call, Check.sum, File.RunFile, File.most_processes, declared.Call.TheVariants.Push}
 

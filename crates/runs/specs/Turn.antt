@@ -1,6 +1,6 @@
 -- One step of a run: document 01, "Steps of the queue", through the step of the crate `queue`.
 use Rattle.base.specs.Words.{ℕ, ◌+◌, cond, ◌&&◌, ltb, List, [], ◌∷◌, ◌++◌, get_or, set}
-use Rattle.log.specs.declared.Entry.{Entry}
+use Rattle.call_log.specs.declared.Entry.{Entry}
 use Rattle.word.specs.{Stages.is_idle, Stages.at_t1, Stages.at_b2, declared.Stage.Stage}
 use Rattle.word.specs.declared.Stage.TheVariants.{P1, T1, B1}
 use Rattle.steps.specs.{Step.stored, Step.stepped_on, Step.stage_after, declared.Next.Next, declared.Stepped.Stepped}

@@ -1,4 +1,6 @@
 // The bench, the rack, the judge and what is left, for a host program in C: include/scarpgoblet.h says what a host may count on.
+#![tactic(auto)]
+
 ghost use Rattle.std.specs.Prelude.{◌≡◌, get_or};
 ghost use Rattle.runs.specs.Promise.{Ran};
 ghost use Rattle.racks.specs.Rack.{Racked};

@@ -1,7 +1,7 @@
 -- C-17. What is left on the table, of every closed run without gone-round takes: of the bytes of its log and the numbers of its table.
 use Rattle.base.specs.Words.{ℕ, ◌+◌, ◌-◌, ◌*◌, ◌<◌, ◌≤◌, List, [], ◌∷◌, ◌++◌, map, length, get_or, take, replicate, ◌≡◌, refl}
 use Rattle.base.specs.{Bytes.Bytes, Lists.list_of}
-use Rattle.log.specs.{Decode.processes_of, Decode.slots_of, Decode.entry_count_of, Decode.entry_at, Encode.log_bytes}
+use Rattle.call_log.specs.{Decode.processes_of, Decode.slots_of, Decode.entry_count_of, Decode.entry_at, Encode.log_bytes}
 use Rattle.rules.specs.Contents.{before}
 use Rattle.rules.specs.Left.{after_all, left_in, nodes_by, times_pushed, times_returned, places_of, InOnePlace, Leaves}
 use Rattle.runs.specs.{Promise.HandsBack, Run.Outcome, Run.table_row_length, Run.run_of}

@@ -2,7 +2,7 @@
 -- what keeps that of `run_len`, as the function for a host in C does, keeps it too, with the written front part of its buffer.
 use Rattle.base.specs.Words.{ℕ, List, length, get_or, take, replicate, ◌≡◌}
 use Rattle.base.specs.Bytes.{Bytes}
-use Rattle.log.specs.Decode.{entry_at}
+use Rattle.call_log.specs.Decode.{entry_at}
 use Rattle.runs.specs.{Promise.Ran, Promise.HandsBack, Run.table_size, Worked.Case, Worked.K3, Worked.room}
 use Rattle.rules.specs.{Judge.judge_of, declared.Verdict.Verdict}
 

@@ -3,7 +3,7 @@ use Rattle.base.specs.Words.{ℕ, List, [], ◌∷◌, map, ◌≡◌, refl}
 use Rattle.runs.specs.Run.{refusal, run_of}
 use Rattle.runs.specs.Worked.{Case, room, shown, expected, K1, K2, K3, K4, K4_no_tag, K5, K6, K7, K8}
 use Rattle.rules.specs.{Contents.before, Judge.judge_of}
-use Rattle.log.specs.{Decode.entry_at, Encode.log_bytes}
+use Rattle.call_log.specs.{Decode.entry_at, Encode.log_bytes}
 
 pub data Worked : Type 0 where
   ran : Case → ℕ → ℕ → Worked  -- a run, with the verdict on its log: the number, and the entry at fault

@@ -1,6 +1,8 @@
 // Tries the cases on standard input, a line each, and prints a line for each. A case is a letter, a name, a colon and bytes: `r` runs them as a
 // run file, `f` only reads them as one, and `j` judges them as a log. Among the bytes `=41` is the length of the buffer for the log, which is that
 // of the longest log where nothing is said, and `+4096` that many bytes 0. The stored output of `r` and `j` was written from document 01 by hand.
+#![tactic(auto)]
+
 use libc::STDIN_FILENO;
 
 mod show; // what is printed
@@ -18,7 +20,7 @@ const NAME: u8 = 2;
 const BYTES: u8 = 3;
 
 // What is known of a line so far; and of the number that is being read, its sign, blank where none was begun, and its value.
-#[derive(Drop)]
+#[derive(Clone, Copy)]
 struct Case {
     stands: u8,
     letter: u8,
@@ -33,7 +35,7 @@ fn fresh() -> Case {
         stands: LETTER,
         letter: 0,
         length: 0,
-        room: log::LONGEST_LOG as u16,
+        room: call_log::LONGEST_LOG as u16,
         sign: b' ',
         value: 0,
     }

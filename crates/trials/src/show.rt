@@ -46,7 +46,7 @@ fn ran(log: &[u8], report: [u16; 4], table: [u16; bench::TABLE_SIZE]) {
 
 // Runs a file with so many bytes of buffer for its log.
 pub(crate) fn run(file: &[u8], room: u16) {
-    let mut buffer = [0u8; log::LONGEST_LOG];
+    let mut buffer = [0u8; call_log::LONGEST_LOG];
     let mut report = [0u16; 4];
     let mut table = [0u16; bench::TABLE_SIZE];
     let n = io::count(room as isize, &buffer);

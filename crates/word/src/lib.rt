@@ -1,8 +1,10 @@
 // The control word of one queue, and the stages of a process.
+#![tactic(auto)]
+
 pub mod stages; // where a stage stands
 
 // The control word of one queue: bottom, and the age of top and tag.
-#[derive(Drop)]
+#[derive(Clone, Copy)]
 pub struct Word {
     pub bottom: u16,
     pub top: u16,
@@ -10,7 +12,7 @@ pub struct Word {
 }
 
 // A process is idle or at one of fourteen stages, with the numbers that it has loaded so far.
-#[derive(Drop)]
+#[derive(Clone, Copy)]
 pub enum Stage {
     Idle,
     P1 { node: u16 },

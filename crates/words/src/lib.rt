@@ -1,4 +1,6 @@
 // The words of a line: how many they are, what the first one spells, and the next four as numbers. Words stand apart by blanks.
+#![tactic(auto)]
+
 ghost use Rattle.std.specs.Prelude.{◌≡◌};
 ghost use Rattle.words.specs.Words.{blank, capital as capital_of, spelled, counted, word_at, fed, start, words_of, small, numbers};
 
@@ -9,7 +11,7 @@ const NO_NUMBER: u32 = 65536;
 
 // What is known of a line's words so far: whether its last byte is in a word, how many have begun (6 for more), the name that the first spells,
 // and the four after it as numbers.
-#[derive(Drop)]
+#[derive(Clone, Copy)]
 pub struct Words {
     pub inside: bool,
     pub count: u8,

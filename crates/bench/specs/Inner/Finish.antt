@@ -2,8 +2,8 @@
 use Rattle.std.specs.Prelude.{ℕ, ◌≤◌, ◌≡◌, List, [], ◌∷◌, length}
 use Rattle.base.specs.Bytes.{put_at}
 use Rattle.base.specs.Lists.{list_of}
-use Rattle.log.specs.Decode.{log_length}
-use Rattle.log.specs.Encode.{head_bytes}
+use Rattle.call_log.specs.Decode.{log_length}
+use Rattle.call_log.specs.Encode.{head_bytes}
 use Rattle.runfile.specs.File.{most_size}
 use Rattle.runfile.specs.declared.Shape.{Shape}
 use Rattle.runs.specs.Run.{table_size, table_at}

@@ -3,9 +3,9 @@
 use Rattle.std.specs.Prelude.{ℕ, suc, ◌+◌, ◌*◌, ◌/◌, ◌%◌, ◌≤◌, ◌<◌, ◌≡◌, cond, List, [], ◌∷◌, length, get_or, take, drop, set}
 use Rattle.base.specs.Bytes.{put_at}
 use Rattle.base.specs.Lists.{list_of}
-use Rattle.log.specs.Decode.{log_length}
-use Rattle.log.specs.Encode.{entry_bytes}
-use Rattle.log.specs.declared.Entry.{Entry}
+use Rattle.call_log.specs.Decode.{log_length}
+use Rattle.call_log.specs.Encode.{entry_bytes}
+use Rattle.call_log.specs.declared.Entry.{Entry}
 use Rattle.steps.specs.Step.{stored, in_sixteen, stepped_on}
 use Rattle.steps.specs.Packed.{unpacked, unpacked_step, top_of}
 use Rattle.steps.specs.declared.PackedStep.{PackedStep}

@@ -4,8 +4,8 @@ use mathlib.Core.Bool.{Bool, cond}
 use Prim.Native.Nat.{ℕ, ◌+◌, ◌-◌}
 use borrow.Author.Tests.{le-leb, lt-leb}
 use borrow.Author.Rules.{rules}
-use Rattle.log.specs.declared.What.{What}
-use Rattle.log.specs.Numbers.{what}
+use Rattle.call_log.specs.declared.What.{What}
+use Rattle.call_log.specs.Numbers.{what}
 use Rattle.fields.specs.Inner.Ends.{lo_of, hi_of, ends_after}
 use Rattle.fields.proofs.KindLaws.{unaltered}
 use Rattle.fields.proofs.moved.Statement.{statement}

@@ -1,7 +1,7 @@
 -- The ends of a queue, and what a call makes of them.
 use Rattle.std.specs.Prelude.{cond, ℕ, ◌+◌, ◌-◌, ◌/◌, ◌%◌, leb}
-use Rattle.log.specs.declared.What.{What}
-use Rattle.log.specs.declared.What.TheVariants.{Pushed, Full, BottomNode, BottomNil, TopNode, TopNil, TopLost}
+use Rattle.call_log.specs.declared.What.{What}
+use Rattle.call_log.specs.declared.What.TheVariants.{Pushed, Full, BottomNode, BottomNil, TopNode, TopNil, TopLost}
 
 -- the ends of a queue are 65,536 × hi + lo: its nodes lie in its row from lo, the top, up to hi
 abbrev pub lo_of : ℕ → ℕ

@@ -1,6 +1,6 @@
 -- Rule 1 by a table: what a call and its result may be, each as bit 4 × kind + result.
 use Rattle.std.specs.Prelude.{Bool, ◌&&◌, ℕ, ◌+◌, ◌*◌, ◌/◌, ◌%◌, ◌^◌, eqb, leb}
-use Rattle.log.specs.Numbers.{push, bottom_pop, top_pop, nil, done, full, lost, most_result}
+use Rattle.call_log.specs.Numbers.{push, bottom_pop, top_pop, nil, done, full, lost, most_result}
 
 abbrev pub place : ℕ → ℕ → ℕ
 place kind result = 4 * kind + result

@@ -6,7 +6,7 @@ use native.Mathlib.Omega.{arith}
 use borrow.Author.Tests.{not-true, not-false}
 use borrow.Author.Rules.{rules}
 use lib.ListN.{length}
-use Rattle.log.specs.Decode.{entry_count_of}
+use Rattle.call_log.specs.Decode.{entry_count_of}
 use Rattle.rules.proofs.VerdictLaws.{head_of, head_read, rules_read, few, short, wrong, cut, long, whole}
 use Rattle.judge.proofs.judge.Statement.{statement}
 use Rattle.judge.proofs.judge.Tie as tie

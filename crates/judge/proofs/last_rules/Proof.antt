@@ -1,7 +1,7 @@
 -- `judge::last_rules` meets its contract. Each answer is the first rule that an entry breaks, all earlier rules having passed.
 use Prim.Native.Nat.{◌≤◌}
 use borrow.Author.Rules.{rules}
-use Rattle.log.specs.Decode.{entry_at}
+use Rattle.call_log.specs.Decode.{entry_at}
 use Rattle.rules.specs.Judge.{first5}
 use Rattle.rules.proofs.VerdictLaws.{pass, says0, says5, says6}
 use Rattle.judge.proofs.last_rules.Statement.{statement}

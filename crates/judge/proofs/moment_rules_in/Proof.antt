@@ -3,8 +3,8 @@ use Prim.Native.Nat.{ℕ, ◌≤◌}
 use native.Mathlib.Omega.{arith}
 use borrow.Author.Rules.{rules}
 use lib.ListN.{length}
-use Rattle.log.specs.Decode.{entry_at}
-use Rattle.log.specs.declared.Entry.{Entry}
+use Rattle.call_log.specs.Decode.{entry_at}
+use Rattle.call_log.specs.declared.Entry.{Entry}
 use Rattle.rules.specs.Judge.{first3, first4}
 use Rattle.rules.proofs.KeptLaws.{moments_of}
 use Rattle.rules.proofs.VerdictLaws.{pass, says3, says4}

@@ -1,8 +1,8 @@
 -- `judge::rules` meets its contract. Each answer is the first rule that an entry breaks, all earlier rules having passed.
 use Prim.Native.Nat.{ℕ, ◌≤◌}
 use borrow.Author.Rules.{rules}
-use Rattle.log.specs.Decode.{entry_at}
-use Rattle.log.specs.declared.Entry.{Entry}
+use Rattle.call_log.specs.Decode.{entry_at}
+use Rattle.call_log.specs.declared.Entry.{Entry}
 use Rattle.rules.specs.Judge.{first1, first2}
 use Rattle.rules.proofs.KeptLaws.{fields_to, order_of}
 use Rattle.rules.proofs.VerdictLaws.{pass, says1, says2, says_later}

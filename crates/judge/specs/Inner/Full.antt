@@ -1,7 +1,7 @@
 -- What rule 6 keeps of each queue since its latest NIL bottom pop: 65,536 times the done pushes plus the nodes taken at the bottom.
 use Rattle.std.specs.Prelude.{ℕ, ◌+◌}
-use Rattle.log.specs.declared.What.{What}
-use Rattle.log.specs.declared.What.TheVariants.{Pushed, Full, BottomNode, BottomNil, TopNode, TopNil, TopLost}
+use Rattle.call_log.specs.declared.What.{What}
+use Rattle.call_log.specs.declared.What.TheVariants.{Pushed, Full, BottomNode, BottomNil, TopNode, TopNil, TopLost}
 
 abbrev pub counts_after : What → ℕ → ℕ
 counts_after Pushed s = s + 65536

@@ -1,9 +1,9 @@
 -- A queue's nodes between two places of a row, and the nodes that were pushed.
 use Rattle.std.specs.Prelude.{◌≡◌, Bool, true, not, List, ℕ, ◌+◌, ◌*◌, ◌≤◌, ◌<◌, eqb, length, get_or}
 use Rattle.std.proofs.Math.Seq.{slice}
-use Rattle.log.specs.declared.Entry.{Entry}
-use Rattle.log.specs.declared.What.TheVariants.{Pushed}
-use Rattle.log.specs.Numbers.{what, same}
+use Rattle.call_log.specs.declared.Entry.{Entry}
+use Rattle.call_log.specs.declared.What.TheVariants.{Pushed}
+use Rattle.call_log.specs.Numbers.{what, same}
 use Rattle.rules.specs.Search.{any}
 use Rattle.fields.specs.Inner.Ends.{lo_of, hi_of}
 

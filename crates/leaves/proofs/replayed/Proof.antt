@@ -3,8 +3,8 @@ use mathlib.Core.Path.{◌≡◌, subst}
 use Prim.Native.Nat.{ℕ, ◌-◌, ◌≤◌, ◌<◌}
 use native.Mathlib.Omega.{arith}
 use borrow.Author.Rules.{rules}
-use Rattle.log.specs.declared.Entry.{Entry}
-use Rattle.log.specs.Decode.{entry_count_of, entry_at}
+use Rattle.call_log.specs.declared.Entry.{Entry}
+use Rattle.call_log.specs.Decode.{entry_count_of, entry_at}
 use Rattle.fields.specs.Inner.Ends.{hi_of}
 use Rattle.keys.specs.Inner.Keys.{index_at}
 use Rattle.leaves.proofs.LeavesLaws.{Lying, lying_start, lying_other, lying_own, lies}

@@ -1,7 +1,7 @@
 -- Where what is left lies.
 use Rattle.std.specs.Prelude.{◌≡◌, List, ℕ, ◌≤◌, length}
 use Rattle.std.proofs.Math.Seq.{slice}
-use Rattle.log.specs.declared.Entry.{Entry}
+use Rattle.call_log.specs.declared.Entry.{Entry}
 use Rattle.rules.specs.Left.{left_in}
 
 -- the nodes that a log leaves in queue q lie from lo up to hi in a row of 256

@@ -5,7 +5,7 @@ use mathlib.Core.Bool.{Bool, false, cond}
 use mathlib.Core.List.{List, []}
 use lib.ListN.{length, get_or, take, replicate}
 use lib.Seq.{take-append_seam}
-use Rattle.log.specs.Decode.{processes_of}
+use Rattle.call_log.specs.Decode.{processes_of}
 use Rattle.runs.specs.Run.{run_of}
 use Rattle.rules.specs.declared.Verdict.{Verdict}
 use Rattle.rules.specs.Judge.{says, judge_of}

@@ -10,8 +10,8 @@ use lib.ListN.{length, get_or, replicate, length-replicate}
 use Rattle.base.specs.Bytes.{Bytes}
 use Rattle.base.proofs.Bytes.{no_bytes, one_more}
 use Rattle.base.proofs.Bools.{and_0, and_1}
-use Rattle.log.specs.Decode.{entry_at}
-use Rattle.log.specs.Encode.{log_bytes}
+use Rattle.call_log.specs.Decode.{entry_at}
+use Rattle.call_log.specs.Encode.{log_bytes}
 use Rattle.runs.specs.Promise.{HandsBack, report_of}
 use Rattle.runs.specs.Run.{Outcome, table_size, run_of}
 use Rattle.runs.specs.Worked.{Case, K1, K3, K4, K5, K8, room}

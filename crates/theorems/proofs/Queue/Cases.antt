@@ -5,9 +5,9 @@ use mathlib.Core.Bool.{Bool, true, false, cond, ◌&&◌}
 use lib.Dec.{eqb}
 use borrow.Author.Tests.{eqb-true, eqb-false}
 use Rattle.base.proofs.Cases.{never}
-use Rattle.log.specs.Numbers.{is_top_nil}
-use Rattle.log.specs.declared.What.{What}
-use Rattle.log.specs.declared.What.TheVariants.{Pushed, Full, BottomNode, BottomNil, TopNode, TopNil, TopLost}
+use Rattle.call_log.specs.Numbers.{is_top_nil}
+use Rattle.call_log.specs.declared.What.{What}
+use Rattle.call_log.specs.declared.What.TheVariants.{Pushed, Full, BottomNode, BottomNil, TopNode, TopNil, TopLost}
 use Rattle.steps.specs.Step.{same_age}
 use Rattle.word.specs.declared.Word.{Word}
 

@@ -10,9 +10,9 @@ use native.Mathlib.Decide.{dec_lt, ℕ_discrete}
 use lib.Dec.{ltb, eqb}
 use lib.ListN.{length, get_or}
 use borrow.Author.Tests.{eqb-true, eq-eqb, ne_eqb, lt-ltb, ltb-true}
-use Rattle.log.specs.Decode.{no_entry}
-use Rattle.log.specs.Numbers.{what}
-use Rattle.log.specs.declared.Entry.{Entry}
+use Rattle.call_log.specs.Decode.{no_entry}
+use Rattle.call_log.specs.Numbers.{what}
+use Rattle.call_log.specs.declared.Entry.{Entry}
 use Rattle.base.proofs.Bools.{by_both, and_i, and_0, and_1, not_so}
 use Rattle.rules.specs.Contents.{bears, drop_last, applied, on, happens, event_at, applied_at, before}
 use Rattle.rules.specs.Search.{first}

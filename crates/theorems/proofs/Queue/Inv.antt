@@ -10,10 +10,10 @@ use mathlib.Core.Logic.{◌⊎◌}
 use lib.Dec.{ltb}
 use lib.ListN.{get_or, length}
 use lib.Seq.{slice}
-use Rattle.log.specs.Numbers.{what}
-use Rattle.log.specs.declared.Entry.{Entry}
-use Rattle.log.specs.declared.What.{What}
-use Rattle.log.specs.declared.What.TheVariants.{Pushed, Full, BottomNode, BottomNil, TopNode, TopNil, TopLost}
+use Rattle.call_log.specs.Numbers.{what}
+use Rattle.call_log.specs.declared.Entry.{Entry}
+use Rattle.call_log.specs.declared.What.{What}
+use Rattle.call_log.specs.declared.What.TheVariants.{Pushed, Full, BottomNode, BottomNil, TopNode, TopNil, TopLost}
 use Rattle.word.specs.Stages.{past_b2}
 use Rattle.word.specs.declared.Stage.{Stage}
 use Rattle.word.specs.declared.Stage.TheVariants.{Idle, P1, P2, P3, T1, T2, T3, T4, B1, B2, B3, B4, B5, B6, B7}

@@ -10,7 +10,7 @@ use Rattle.word.specs.declared.Stage.{Stage}
 use Rattle.word.specs.declared.Stage.TheVariants.{Idle, P1, P2, P3, T1, T2, T3, T4, B1, B2, B3, B4, B5, B6, B7}
 use Rattle.steps.specs.declared.Stepped.{Stepped}
 use Rattle.word.specs.declared.Word.{Word}
-use Rattle.log.specs.declared.Entry.{Entry}
+use Rattle.call_log.specs.declared.Entry.{Entry}
 use Rattle.runs.specs.Moment.{Ended, Nothing, ends}
 use Rattle.runs.specs.State.{State, queue_at}
 use Rattle.runfile.specs.declared.Call.{Call}

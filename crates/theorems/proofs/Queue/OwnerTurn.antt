@@ -12,10 +12,10 @@ use lib.Dec.{ltb}
 use lib.ListN.{get_or, length, set, length-set, take}
 use lib.Seq.{slice, take-set-le, get_or-set_same, get_or-set_other}
 use borrow.Author.Tests.{ne_eqb, lt-ltb, le-ltb}
-use Rattle.log.specs.Numbers.{what, no_moment}
-use Rattle.log.specs.declared.Entry.{Entry}
-use Rattle.log.specs.declared.What.{What}
-use Rattle.log.specs.declared.What.TheVariants.{Pushed, Full, BottomNode, BottomNil}
+use Rattle.call_log.specs.Numbers.{what, no_moment}
+use Rattle.call_log.specs.declared.Entry.{Entry}
+use Rattle.call_log.specs.declared.What.{What}
+use Rattle.call_log.specs.declared.What.TheVariants.{Pushed, Full, BottomNode, BottomNil}
 use Rattle.word.specs.Stages.{past_b2, at_b2}
 use Rattle.steps.specs.Step.{bottom_to, leaves as stays, stage_after}
 use Rattle.steps.specs.declared.Next.TheVariants as next

@@ -11,10 +11,10 @@ use lib.Dec.{eqb}
 use lib.ListN.{get_or}
 use lib.Seq.{slice, slice-cons}
 use borrow.Author.Tests.{eq-eqb, ne_eqb, lt-ltb, le-ltb, eqb-true, eqb-false}
-use Rattle.log.specs.Numbers.{no_moment, kind_of, result_of, bears_moment, what_of, is_top_nil}
-use Rattle.log.specs.declared.Entry.{Entry}
-use Rattle.log.specs.declared.What.{What}
-use Rattle.log.specs.declared.What.TheVariants.{Pushed, TopNode, TopNil, TopLost}
+use Rattle.call_log.specs.Numbers.{no_moment, kind_of, result_of, bears_moment, what_of, is_top_nil}
+use Rattle.call_log.specs.declared.Entry.{Entry}
+use Rattle.call_log.specs.declared.What.{What}
+use Rattle.call_log.specs.declared.What.TheVariants.{Pushed, TopNode, TopNil, TopLost}
 use Rattle.word.specs.Stages.{past_b2, first_loaded, pops_slot, at_t1}
 use Rattle.steps.specs.Step.{age_to, stage_after}
 use Rattle.word.specs.declared.Stage.{Stage}

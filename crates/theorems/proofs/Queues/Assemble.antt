@@ -6,7 +6,7 @@ use mathlib.Core.List.{List, [], ◌∷◌, ◌++◌}
 use mathlib.Core.Logic.{◌⊎◌, inl, inr}
 use native.Mathlib.Omega.{arith}
 use lib.ListN.{get_or, set}
-use Rattle.log.specs.declared.Entry.{Entry}
+use Rattle.call_log.specs.declared.Entry.{Entry}
 use Rattle.word.specs.Stages.{past_b2}
 use Rattle.steps.specs.Step.{stored}
 use Rattle.steps.specs.declared.Stepped.{Stepped}

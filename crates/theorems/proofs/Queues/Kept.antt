@@ -9,7 +9,7 @@ use lib.ListN.{get_or, replicate, length-replicate, get_or-replicate}
 use Rattle.word.specs.Stages.{past_b2}
 use Rattle.word.specs.declared.Stage.{Stage}
 use Rattle.word.specs.declared.Stage.TheVariants.{Idle}
-use Rattle.log.specs.declared.Entry.{Entry}
+use Rattle.call_log.specs.declared.Entry.{Entry}
 use Rattle.runs.specs.Inner.Sound.{is_own, Sizes, Fit, processes, slots_at, Sound}
 use Rattle.runs.specs.Moment.{queue_of, pushed_node}
 use Rattle.runs.specs.State.{Process, Queue, State, fresh, queue_at, process_at}

@@ -11,7 +11,7 @@ use Rattle.desk.specs.Desk.{result_of}
 use Rattle.steps.specs.declared.Next.{Next}
 use Rattle.steps.specs.declared.Next.TheVariants.{Going, Done, Node, Nil, Lost, Full}
 use Rattle.steps.specs.declared.Stepped.{Stepped}
-use Rattle.log.specs.declared.Entry.{Entry}
+use Rattle.call_log.specs.declared.Entry.{Entry}
 use Rattle.base.proofs.Cases.{either_way}
 use Rattle.desk.proofs.DeskLaws.{row_done}
 use Rattle.runs.specs.Moment.{queue_of, is_take, ends, ended}

@@ -10,10 +10,10 @@ use lib.ListN.{length, get_or, take}
 use lib.Seq.{slice, length-slice, ext_get_or, get_or-take, get_or-drop}
 use Rattle.base.specs.Lists.{list_of}
 use Rattle.base.proofs.Lists.{list_of-length, list_of_get_d}
-use Rattle.log.specs.declared.Entry.{Entry}
-use Rattle.log.specs.Decode.{processes_of, entry_at, entry_count_of}
-use Rattle.log.specs.Encode.{log_bytes}
-use Rattle.log.proofs.EncodeLaws.{processes_decoded, slots_decoded, entry_count_decoded}
+use Rattle.call_log.specs.declared.Entry.{Entry}
+use Rattle.call_log.specs.Decode.{processes_of, entry_at, entry_count_of}
+use Rattle.call_log.specs.Encode.{log_bytes}
+use Rattle.call_log.proofs.EncodeLaws.{processes_decoded, slots_decoded, entry_count_decoded}
 use Rattle.word.specs.declared.Stage.{Stage}
 use Rattle.runfile.specs.Encode.{InRanges}
 use Rattle.runfile.specs.File.{RunFile}

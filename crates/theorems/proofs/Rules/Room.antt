@@ -10,11 +10,11 @@ use native.Mathlib.Numerals.{add-one}
 use lib.Dec.{eqb, leb}
 use lib.ListN.{length, length-append, get_or-replicate, get_or-append}
 use borrow.Author.Tests.{eq-eqb, ne_eqb}
-use Rattle.log.specs.Decode.{no_entry}
-use Rattle.log.specs.Numbers.{what, same}
-use Rattle.log.specs.declared.Entry.{Entry}
-use Rattle.log.specs.declared.What.{What}
-use Rattle.log.specs.declared.What.TheVariants.{Pushed, Full, BottomNode, BottomNil, TopNode, TopNil, TopLost}
+use Rattle.call_log.specs.Decode.{no_entry}
+use Rattle.call_log.specs.Numbers.{what, same}
+use Rattle.call_log.specs.declared.Entry.{Entry}
+use Rattle.call_log.specs.declared.What.{What}
+use Rattle.call_log.specs.declared.What.TheVariants.{Pushed, Full, BottomNode, BottomNil, TopNode, TopNil, TopLost}
 use Rattle.base.proofs.Cases.{either_way, never, ever, if_eq, if_lt, if_le, if_set}
 use Rattle.base.proofs.Bools.{or_l}
 use Rattle.steps.specs.Step.{loaded_slot, loaded, stage_after}

@@ -7,14 +7,14 @@ use mathlib.Core.Logic.{◌⊎◌, inl, inr}
 use native.Mathlib.Decide.{dec_lt}
 use native.Mathlib.Omega.{arith}
 use lib.ListN.{length}
-use Rattle.log.specs.Encode.{EntryFits}
+use Rattle.call_log.specs.Encode.{EntryFits}
 use Rattle.base.specs.Lists.{All}
-use Rattle.log.specs.Decode.{no_entry}
-use Rattle.log.specs.Numbers.{push, bottom_pop, top_pop, nil, done, full, lost, most_result, no_moment, kind_of, result_of, bears_moment, what_of, what}
-use Rattle.log.proofs.NumbersLaws.{what_back}
-use Rattle.log.specs.declared.Entry.{Entry}
-use Rattle.log.specs.declared.What.{What}
-use Rattle.log.specs.declared.What.TheVariants.{Pushed, Full, BottomNode, BottomNil, TopNode, TopNil, TopLost}
+use Rattle.call_log.specs.Decode.{no_entry}
+use Rattle.call_log.specs.Numbers.{push, bottom_pop, top_pop, nil, done, full, lost, most_result, no_moment, kind_of, result_of, bears_moment, what_of, what}
+use Rattle.call_log.proofs.NumbersLaws.{what_back}
+use Rattle.call_log.specs.declared.Entry.{Entry}
+use Rattle.call_log.specs.declared.What.{What}
+use Rattle.call_log.specs.declared.What.TheVariants.{Pushed, Full, BottomNode, BottomNil, TopNode, TopNil, TopLost}
 use Rattle.word.specs.declared.Stage.{Stage}
 use Rattle.word.specs.declared.Stage.TheVariants.{Idle}
 use Rattle.base.proofs.Cases.{if_lt, ever}

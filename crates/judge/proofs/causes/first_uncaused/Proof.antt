@@ -8,8 +8,8 @@ use native.Mathlib.Omega.{arith}
 use borrow.Author.Rules.{rules}
 use borrow.Author.Tests.{not-true, not-false, ltb-true, leb-true}
 use lib.Dec.{ltb, leb}
-use Rattle.log.specs.Decode.{entry_at}
-use Rattle.log.specs.declared.Entry.{Entry}
+use Rattle.call_log.specs.Decode.{entry_at}
+use Rattle.call_log.specs.declared.Entry.{Entry}
 use Rattle.base.proofs.Bools.{and_0, and_1}
 use Rattle.rules.specs.Search.{first}
 use Rattle.rules.proofs.SearchLaws.{first_start, first_next, first_found, first_end}

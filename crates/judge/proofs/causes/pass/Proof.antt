@@ -4,7 +4,7 @@ use mathlib.Core.List.{List}
 use native.Mathlib.Omega.{arith}
 use Prim.Native.Nat.{ℕ}
 use borrow.Author.Rules.{rules}
-use Rattle.log.specs.declared.Entry.{Entry}
+use Rattle.call_log.specs.declared.Entry.{Entry}
 use Rattle.judge.specs.Inner.Causes.{Passable, passed_by}
 use Rattle.judge.proofs.causes.pass.Statement.{statement}
 use Rattle.judge.proofs.causes.pass.Tie as tie

@@ -5,7 +5,7 @@ use Prim.Native.Nat.{ℕ, ◌-◌}
 use borrow.Author.Rules.{rules}
 use borrow.Author.Tests.{lt-ltb, le-ltb}
 use lib.Dec.{ltb}
-use Rattle.log.specs.declared.What.{What}
+use Rattle.call_log.specs.declared.What.{What}
 use Rattle.judge.specs.Inner.Causes.{shelf_by, shelf_after}
 use Rattle.fields.proofs.KindLaws.{took, unaltered}
 use Rattle.judge.proofs.causes.shelf_after.Statement.{statement}

@@ -9,8 +9,8 @@ use borrow.Author.Rules.{rules}
 use borrow.Author.Tests.{ltb-false}
 use lib.Dec.{ltb}
 use lib.ListN.{get_or, set}
-use Rattle.log.specs.Decode.{entry_at}
-use Rattle.log.specs.declared.Entry.{Entry}
+use Rattle.call_log.specs.Decode.{entry_at}
+use Rattle.call_log.specs.declared.Entry.{Entry}
 use Rattle.rules.specs.Accepted.{Rule1}
 use Rattle.base.proofs.Bools.{or_0, or_1}
 use Rattle.rules.proofs.SearchLaws.{first_start, first_next, first_found, first_end}

@@ -4,7 +4,7 @@ use mathlib.Core.Bool.{not}
 use Prim.Native.Nat.{◌-◌, ◌≤◌}
 use native.Mathlib.Omega.{arith}
 use borrow.Author.Rules.{rules}
-use Rattle.log.specs.Decode.{entry_at}
+use Rattle.call_log.specs.Decode.{entry_at}
 use Rattle.rules.proofs.SearchLaws.{first_start, first_next, first_found, first_end}
 use Rattle.rules.specs.Search.{first}
 use Rattle.rules.specs.Rules.{keeps1, breaks1}

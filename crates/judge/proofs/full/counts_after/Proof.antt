@@ -2,8 +2,8 @@
 use mathlib.Core.Path.{◌≡◌, refl, sym, ap, ◌∙◌}
 use Prim.Native.Nat.{ℕ}
 use borrow.Author.Rules.{rules}
-use Rattle.log.specs.declared.What.{What}
-use Rattle.log.specs.Numbers.{what}
+use Rattle.call_log.specs.declared.What.{What}
+use Rattle.call_log.specs.Numbers.{what}
 use Rattle.judge.specs.Inner.Full.{counts_after}
 use Rattle.fields.proofs.KindLaws.{uncounted}
 use Rattle.judge.proofs.full.counts_after.Statement.{statement}

@@ -1,7 +1,7 @@
 -- `judge::full::first_unfilled` meets its contract.
 use mathlib.Core.Path.{sym, ◌∙◌}
 use borrow.Author.Rules.{rules}
-use Rattle.log.specs.Decode.{entry_at}
+use Rattle.call_log.specs.Decode.{entry_at}
 use Rattle.judge.proofs.FullLaws.{none_unfilled}
 use Rattle.judge.proofs.full.first_unfilled.Statement.{statement}
 use Rattle.judge.proofs.full.first_unfilled.Tie as tie

@@ -7,8 +7,8 @@ use native.Mathlib.Omega.{arith}
 use borrow.Author.Rules.{rules}
 use lib.Dec.{ltb}
 use lib.ListN.{get_or}
-use Rattle.log.specs.Decode.{entry_at}
-use Rattle.log.specs.declared.Entry.{Entry}
+use Rattle.call_log.specs.Decode.{entry_at}
+use Rattle.call_log.specs.declared.Entry.{Entry}
 use Rattle.rules.specs.Search.{first}
 use Rattle.rules.proofs.SearchLaws.{first_start, first_next, first_found, first_end}
 use Rattle.rules.specs.Rules.{breaks6}

@@ -4,11 +4,11 @@ use Prim.Native.Nat.{◌+◌, ◌-◌, ◌≤◌, ◌<◌}
 use native.Mathlib.Omega.{arith}
 use borrow.Author.Rules.{rules}
 use Rattle.base.proofs.Cases.{ever}
-use Rattle.log.specs.Decode.{entry_at}
-use Rattle.log.proofs.EncodeLaws.{entry_fits}
-use Rattle.log.specs.Numbers.{what, same}
-use Rattle.log.specs.declared.Entry.{Entry}
-use Rattle.log.specs.declared.What.TheVariants.{Pushed}
+use Rattle.call_log.specs.Decode.{entry_at}
+use Rattle.call_log.proofs.EncodeLaws.{entry_fits}
+use Rattle.call_log.specs.Numbers.{what, same}
+use Rattle.call_log.specs.declared.Entry.{Entry}
+use Rattle.call_log.specs.declared.What.TheVariants.{Pushed}
 use Rattle.marks.specs.Inner.Marks.{marked, with_mark}
 use Rattle.judge.specs.Inner.Replay.{Differ}
 use Rattle.judge.proofs.NodeLaws.{Marked, marked_start, marked_other, marked_push}

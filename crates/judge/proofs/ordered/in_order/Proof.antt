@@ -6,7 +6,7 @@ use borrow.Author.Rules.{rules}
 use borrow.Author.Tests.{not-true, not-false}
 use lib.Dec.{eqb, leb}
 use lib.ListN.{length}
-use Rattle.log.specs.Decode.{log_length}
+use Rattle.call_log.specs.Decode.{log_length}
 use Rattle.judge.proofs.KeyLaws.{orders_none, few, sized, orders}
 use Rattle.judge.proofs.ordered.in_order.Statement.{statement}
 use Rattle.judge.proofs.ordered.in_order.Tie as tie

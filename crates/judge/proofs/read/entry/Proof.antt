@@ -5,7 +5,7 @@ use native.Mathlib.Omega.{arith}
 use borrow.Author.Rules.{rules}
 use lib.Seq.{take_all}
 use lib.ListN.{length-drop, length, drop}
-use Rattle.log.specs.Decode.{entry_at, first_entry}
+use Rattle.call_log.specs.Decode.{entry_at, first_entry}
 use Rattle.judge.proofs.read.entry.Statement.{statement}
 use Rattle.judge.proofs.read.entry.Tie as tie
 

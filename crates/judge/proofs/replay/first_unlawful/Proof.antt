@@ -7,8 +7,8 @@ use native.Mathlib.Omega.{arith}
 use borrow.Author.Rules.{rules}
 use borrow.Author.Tests.{not-true, not-false}
 use lib.ListN.{length-set}
-use Rattle.log.specs.Decode.{entry_at}
-use Rattle.log.specs.declared.Entry.{Entry}
+use Rattle.call_log.specs.Decode.{entry_at}
+use Rattle.call_log.specs.declared.Entry.{Entry}
 use Rattle.rules.specs.Rules.{lawful_at}
 use Rattle.keys.specs.Inner.Keys.{index_at}
 use Rattle.judge.proofs.ReplayLaws.{worst_is, none_worst}

@@ -4,8 +4,8 @@ use mathlib.Core.Bool.{Bool, true, not}
 use mathlib.Core.List.{List}
 use Prim.Native.Nat.{ℕ, ◌+◌}
 use borrow.Author.Rules.{rules}
-use Rattle.log.specs.declared.What.{What}
-use Rattle.log.specs.Numbers.{what}
+use Rattle.call_log.specs.declared.What.{What}
+use Rattle.call_log.specs.Numbers.{what}
 use Rattle.rules.specs.Rules.{lawful}
 use Rattle.fields.specs.Inner.Ends.{lo_of, hi_of}
 use Rattle.judge.specs.Inner.Replay.{new_in, held_in}
