@@ -67,7 +67,7 @@ fn numbers(of: Stage) {
 
 // A stage as it is typed.
 fn stage(of: Stage) {
-    name(of.row_number_lem());
+    name(of.row_number());
     numbers(of);
 }
 
@@ -122,7 +122,7 @@ fn takes(digit: u8) {
 
 // The numbers that a stage takes: how many, and the letter of each.
 fn wanted(of: Stage) {
-    let row = of.row_number_lem();
+    let row = of.row_number();
     name(row);
     let place = row as usize;
     takes(base::byte_at(b"012102340112444", place));

@@ -37,7 +37,7 @@ fn word_in(width: u8, size: u8, word: Word) -> bool
     (word.bottom <= size as u16) & age_in(width, size, word.top, word.tag)
 }
 
-fn take_in_lem(width: u8, size: u8, t: u16, g: u16, b: u16) -> bool
+fn take_in(width: u8, size: u8, t: u16, g: u16, b: u16) -> bool
     ensures { result ≡ take_in width size t g b }
 {
     (t < size as u16) & is_tag(width, g) & (b <= size as u16)
@@ -59,8 +59,8 @@ fn stage_in(width: u8, size: u8, stage: Stage) -> bool
         Stage::P3 { b } => b < size as u16,
         Stage::T1 => true,
         Stage::T2 { t, g } => age_in(width, size, t, g),
-        Stage::T3 { t, g, b } => take_in_lem(width, size, t, g, b),
-        Stage::T4 { t, g, b, .. } => take_in_lem(width, size, t, g, b),
+        Stage::T3 { t, g, b } => take_in(width, size, t, g, b),
+        Stage::T4 { t, g, b, .. } => take_in(width, size, t, g, b),
         Stage::B1 => true,
         Stage::B2 { b } => pop_in(size, b),
         Stage::B3 { b } => pop_in(size, b),

@@ -11,8 +11,8 @@ use Rattle.base.proofs.Bytes.{high, low, number_at-drop}
 use Rattle.base.proofs.Cases.{if_eq, if_lt}
 use Rattle.runfile.specs.declared.Call.{Call}
 use Rattle.runfile.specs.declared.Coded.{Coded}
-use Rattle.runfile.specs.File.{RunFile, good, section_count, width_in, size_in, processes_in, calls_in, steps_in, call_place, step_place, call_of}
-use Rattle.runfile.specs.File.{coded_at, call_in, wrong_after, record_in, file_of}
+use Rattle.runfile.specs.File.{first_calls, RunFile, good, section_count, width_in, size_in, processes_in, calls_in, steps_in, call_place, step_place, call_of}
+use Rattle.runfile.specs.File.{first_calls, coded_at, call_in, wrong_after, record_in, file_of}
 use Rattle.runfile.specs.Encode.{call_bytes, calls_bytes, encode}
 use Rattle.runfile.proofs.SectionBytes.{bytes3, bytes4}
 use Rattle.runfile.proofs.GoodLaws.{Passes, good_passes, shares_length, all_calls_length, schedule_length}
@@ -90,7 +90,7 @@ module _ (s : List ℕ) (b : Bytes s) where
     calls_at : calls_bytes (record_in s).calls ≡ take (3 * n) (drop (6 + P) s)
     calls_at =
         calls_bytes_lem (λ k. call_in (coded_at s P k)) n (6 + P) (omega (arith, h.whole))
-        (λ k lt. call_bytes_lem P (byte_at s (call_place P k)) (number_at s (call_place P k + 1)) _ (call_right s b h k lt))
+        (λ k lt. call_bytes_lem P (byte_at s (call_place P k)) (number_at s (call_place P k + 1)) (first_calls s P k) (call_right s b h k lt))
 
     fourth_at : bytes4 (record_in s) ≡ drop (call_place P n) s
     fourth_at =

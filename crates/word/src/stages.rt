@@ -13,7 +13,7 @@ pub fn below(b: u16) -> u16
 
 impl Stage {
     // The row of the table that a stage stands at, from 1; an idle stage stands at 0.
-    pub fn row_number_lem(self) -> u8
+    pub fn row_number(self) -> u8
         ensures { result ≡ row_number self }
     {
         match self {
@@ -38,25 +38,25 @@ impl Stage {
     pub fn is_idle(self) -> bool
         ensures { result ≡ is_idle self }
     {
-        self.row_number_lem() == 0
+        self.row_number() == 0
     }
 
     pub fn at_t1(self) -> bool
         ensures { result ≡ at_t1 self }
     {
-        self.row_number_lem() == 4
+        self.row_number() == 4
     }
 
     pub fn at_b2(self) -> bool
         ensures { result ≡ at_b2 self }
     {
-        self.row_number_lem() == 9
+        self.row_number() == 9
     }
 
     pub fn past_b2(self) -> bool
         ensures { result ≡ past_b2 self }
     {
-        9 < self.row_number_lem()
+        9 < self.row_number()
     }
 
     // In a bottom pop past B2 with b−1 = t.

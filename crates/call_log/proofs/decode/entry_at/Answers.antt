@@ -11,7 +11,7 @@ pub returns-then-log-i : goal.returns-then-log-i
 unfolding entry_at
 returns-then-log-i c = let l = c.args.log.now in
     let past : length l ≤ 5 + 12 * c.args.i = omega arith in
-    c.no_entry_lem.ensures ∙ sym (ap first_entry (drop_of_length-le l past))
+    c.no_entry.ensures ∙ sym (ap first_entry (drop_of_length-le l past))
 
 pub returns-then-log-at : goal.returns-then-log-at
 unfolding entry_at
