@@ -23,7 +23,7 @@ fn wrong_call(file: &[u8], processes: u8, k: u16, marks: &mut [u8; MARK_BYTES]) 
     requires marks { Marks marks.old (first_calls file.now processes k) }
     requires k_in_bounds { call_place processes (k + 1) ≤ length file.now }
     ensures value { result ≡ wrong_at file.now processes k }
-    ensures marks_2 { result ≡ 0 → Marks marks.new (first_calls file.now processes (k + 1)) }
+    ensures marks_after { result ≡ 0 → Marks marks.new (first_calls file.now processes (k + 1)) }
 {
     let coded = coded_within(file, processes, k);
     match coded {
