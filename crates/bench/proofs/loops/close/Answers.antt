@@ -1,0 +1,58 @@
+-- `loops::close` meets its contract: six steps of the lowest half-done process are a round of the closing.
+use lib.Count.{count_trailing_zeros}
+use native.Mathlib.Omega.{arith}
+use Rattle.runfile.specs.File.{first_calls}
+use Rattle.bench.specs.Inner.Layout.{bench_in, sizes_in}
+use Rattle.bench.proofs.RunLaws.{closing_start, round_below, closing_next, closing_over, closing_all}
+use Rattle.runs.proofs.TurnLaws.{calls_in_lem}
+use Rattle.runs.proofs.HalfLaws.{next_closed, run_closed, run_open}
+use Rattle.bench.proofs.loops.close.Goals as goal
+
+pub loop-done-init : goal.loop-done-init
+loop-done-init c = (
+      omega arith,
+      c.requires.all_slots,
+      closing_start (sizes_in c.args.shape) c.args.shape.calls _ _ _ c.requires.whole c.requires.counted
+          c.requires.sound c.requires.left c.requires.six c.requires.few,
+    )
+
+pub returns-then-set-eq0 : goal.returns-then-set-eq0
+returns-then-set-eq0 c = let l = c.loop-done in
+    closing_over (sizes_in c.args.shape) _ _ _ _ _ _ _ _ l.invariant.2 l.invariant.0
+    (run_closed (bench_in l.after).processes l.invariant.2.along.counted.processes _ c.half_done-set.ensures c.if-set-eq0.true)
+
+pub walk-after-requires : goal.walk-after-requires
+walk-after-requires c = let l = c.loop-done in
+    let h = c.half_done_lem in
+    let along = l.invariant.2.along in
+    let next = next_closed (bench_in l.after).processes along.counted.processes _ h.ensures in
+    let busy = run_open (bench_in l.after).processes along.counted.processes _ h.ensures c.if-set-eq0.false in
+    record {
+      whole = along.becomes.whole;
+      counted = along.counted;
+      left = along.left;
+      few = omega (arith, l.invariant.2.steps, c.loop-done-test.true);
+      all_slots = l.invariant.1;
+      fit = c.requires.fit;
+      sound = along.sound;
+      below = round_below (sizes_in c.args.shape) _ _ _ _ _ _ _ _ l.invariant.2 (count_trailing_zeros 8 h.result) next busy;
+    }
+
+pub loop-done-preserved : goal.loop-done-preserved
+loop-done-preserved c = let l = c.loop-done in
+    let h = c.half_done_lem in
+    let along = l.invariant.2.along in
+    let next = next_closed (bench_in l.after).processes along.counted.processes _ h.ensures in
+    let left = c.if-set-eq0.false in
+    let busy = run_open (bench_in l.after).processes along.counted.processes _ h.ensures left in (
+      omega (arith, c.loop-done-test.true),
+      omega (arith, c.slots-1.given, l.invariant.1),
+      closing_next (sizes_in c.args.shape) _ _ _ _ _ _ _ _ l.invariant.2 (count_trailing_zeros 8 h.result) next busy c.requires.fit
+          (first_calls c.args.file.now c.args.shape.processes c.args.shape.calls)
+          (calls_in_lem c.args.file.now c.args.shape.processes c.args.shape.calls) _ _ _
+          c.walk-after.ensures,
+    )
+
+pub returns : goal.returns
+returns c = let l = c.loop-done in
+    closing_all (sizes_in c.args.shape) _ _ _ _ _ _ _ _ l.invariant.2 (omega (arith, l.invariant.0, c.loop-done-test.false))

@@ -1,0 +1,33 @@
+-- `loops::half_done` meets its contract.
+use mathlib.Core.Path.{◌≡◌, sym, ap, ◌∙◌}
+use mathlib.Core.List.{List}
+use Prim.Native.Nat.{ℕ, ◌<◌}
+use native.Mathlib.Omega.{arith}
+use lib.ListN.{length, get_or}
+use Rattle.base.specs.Lists.{list_of}
+use Rattle.base.proofs.Lists.{list_of-length, list_of_get_d}
+use Rattle.runs.specs.State.{Process, nobody}
+use Rattle.records.specs.declared.Process.{Process as HeldProcess}
+use Rattle.bench.specs.Inner.Layout.{idle_held, process_at_in}
+use Rattle.word.specs.Stages.{is_idle}
+use Rattle.runs.specs.Inner.Half.{bit}
+use Rattle.runs.proofs.HalfLaws.{half_loop}
+use Rattle.bench.proofs.loops.half_done.Goals as goal
+
+abbrev all : List HeldProcess → List Process
+all l = list_of 8 (process_at_in l)
+
+eight : (l : List HeldProcess) → length (all l) ≡ 8
+eight l = list_of-length 8 (process_at_in l)
+
+half_of : (l : List HeldProcess) (i half : ℕ) → i < 8 → half ≡ bit (is_idle (get_or l i idle_held).stage)
+    → half ≡ bit (is_idle (get_or (all l) i nobody).stage)
+half_of l i half lt e = e ∙ ap (λ (x : Process). bit (is_idle x.stage)) (sym (list_of_get_d 8 (process_at_in l) nobody i lt))
+
+pub loop-i-preserved : goal.loop-i-preserved
+loop-i-preserved c = let l = c.args.t1 in
+    let h = c.loop-i in
+    let more = c.loop-i-test.true in (
+      omega arith,
+      half_loop (all l) (eight l) _ _ _ h.invariant.1 more h.invariant.0 (half_of l _ _ (omega (arith, h.invariant.0, more)) c.bit-half.ensures),
+    )
