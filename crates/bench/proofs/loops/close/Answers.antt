@@ -23,7 +23,7 @@ returns-then-set-eq0 c = let l = c.loop-done in
 
 pub walk-after-requires : goal.walk-after-requires
 walk-after-requires c = let l = c.loop-done in
-    let h = c.half_done_lem in
+    let h = c.half_done-set in
     let along = l.invariant.2.along in
     let next = next_closed (bench_in l.after).processes along.counted.processes _ h.ensures in
     let busy = run_open (bench_in l.after).processes along.counted.processes _ h.ensures c.if-set-eq0.false in
@@ -40,7 +40,7 @@ walk-after-requires c = let l = c.loop-done in
 
 pub loop-done-preserved : goal.loop-done-preserved
 loop-done-preserved c = let l = c.loop-done in
-    let h = c.half_done_lem in
+    let h = c.half_done-set in
     let along = l.invariant.2.along in
     let next = next_closed (bench_in l.after).processes along.counted.processes _ h.ensures in
     let left = c.if-set-eq0.false in

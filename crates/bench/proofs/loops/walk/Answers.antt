@@ -1,29 +1,70 @@
 -- `loops::walk` meets its contract: after i steps the bench stands for the state that the first i bytes of the schedule lead to.
-use Prim.Native.Nat.{ℕ, ◌≤◌, ◌<◌}
+use Prim.Native.Nat.{ℕ, ◌+◌, ◌-◌, ◌≤◌, ◌<◌}
 use mathlib.Core.Path.{◌≡◌, refl, sym, ap, ◌∙◌}
-use mathlib.Core.Bool.{Bool, true, false, cond, not}
+use mathlib.Core.Bool.{Bool, true, false, ◌&&◌, cond, not}
 use mathlib.Core.List.{List}
+use lib.Dec.{ltb}
 use lib.ListN.{length, get_or}
 use native.Mathlib.Omega.{arith}
+use Rattle.word.specs.Stages.{is_idle}
 use Rattle.runs.specs.State.{Process}
+use Rattle.runs.specs.Moment.{queue_of}
+use Rattle.runs.specs.Turn.{ready}
 use Rattle.runs.specs.Inner.Sound.{AllIn}
 use Rattle.runs.proofs.TurnLaws.{calls_in_lem, entries_few, gone_most}
 use Rattle.runfile.specs.declared.Call.{Call}
+use Rattle.runfile.specs.declared.Shape.{Shape}
 use Rattle.records.specs.Inner.Records.{process_in}
-use Rattle.bench.specs.Inner.Layout.{record_in, sizes_in}
+use Rattle.bench.specs.Inner.Layout.{record_in, state_in, sizes_in, Becomes, ToWalk}
+use Rattle.bench.specs.Inner.Walk.{walked_one}
+use Rattle.bench.specs.declared.Bench.{Bench}
 use Rattle.bench.proofs.LayoutLaws.{held_resets, held_b2}
 use Rattle.bench.proofs.WayLaws.{same_b2, way_idle, on_queue, way_on, way_ends}
-use Rattle.bench.proofs.RunLaws.{walked_start, walked_all, goes_on}
+use Rattle.bench.proofs.RunLaws.{Walked, walked_start, walked_more, walked_all, goes_on}
 use Rattle.bench.proofs.loops.walk.Invariants.{calls_of}
 use Rattle.bench.proofs.loops.walk.Goals as goal
 
-one-most : (t : Bool) → cond t 0 1 ≤ 1
-one-most true = omega arith
-one-most false = omega arith
+one_most : (t : Bool) → cond t 0 1 ≤ 1
+one_most true = omega arith
+one_most false = omega arith
 
-not_so : (t : Bool) → not t ≡ true → t ≡ false
-not_so true e = sym e
-not_so false e = refl
+no_more : (t : Bool) (n : ℕ) → cond t 0 n ≤ n
+no_more true n = omega arith
+no_more false n = omega arith
+
+-- a turn: what the function is given, and how far the loop has come
+module _ (file : List ℕ) (a : Shape) (schedule : List ℕ) (closing : Bool) (state : Bench) (slots₀ log₀ : List ℕ) (given : ToWalk a schedule state slots₀)
+    (run : Bench) (slots log : List ℕ) (i : ℕ)
+    (come : Walked (sizes_in a) a.calls state.entries closing (calls_of file a) schedule log₀ (state_in a.size state slots₀) i run slots log)
+    (on : (ltb i (length schedule) && ltb run.entries a.calls) ≡ true) where
+  -- the process is one of the run's
+  here : i < length schedule
+  here = goes_on _ _ run.entries a.calls on
+
+  below_P : get_or schedule i 0 < a.processes
+  below_P = given.below i here
+
+  p_small : get_or schedule i 0 < 8
+  p_small = omega (arith, below_P, given.fit.processes)
+
+  steps_few : run.steps ≤ 4143
+  steps_few = omega (arith, come.1, here, given.few)
+
+  calls_are : AllIn a.processes (calls_of file a)
+  calls_are = calls_in_lem file a.processes a.calls
+
+  -- what its step comes to is one step more of the walk
+  more : (b : Bench) (slots' log' : List ℕ)
+      → Becomes a.size run.entries log (walked_one closing a.width a.size (calls_of file a) (get_or schedule i 0) (state_in a.size run slots)) b slots' log'
+      → Walked (sizes_in a) a.calls state.entries closing (calls_of file a) schedule log₀ (state_in a.size state slots₀) (i + 1) b slots' log'
+  more b slots' log' step = walked_more (sizes_in a) _ _ _ (calls_of file a) schedule _ _ i _ _ _ come given.fit calls_are b slots' log' here below_P step
+
+  -- its call is on one of the queues
+  q_small : (r : Process) → r ≡ cond closing (record_in run (get_or schedule i 0)) (ready (calls_of file a) run.steps (record_in run (get_or schedule i 0)))
+      → is_idle r.stage ≡ false → (q : ℕ) → q ≡ queue_of (get_or schedule i 0) r.call → q < 8
+  q_small r d busy q e =
+      on_queue (sizes_in a) given.fit closing (calls_of file a) calls_are run slots log come.0.sound (get_or schedule i 0) below_P r d busy q e
+
 
 pub loop-i-init : goal.loop-i-init
 loop-i-init c = (
@@ -35,289 +76,119 @@ loop-i-init c = (
     )
 
 pub overflow_add-run : goal.overflow_add-run
-overflow_add-run c = 
-    let turn_at : Turn = c in
-    let here : c.loop.i < length c.args.schedule.now = goes_on _ _ c.loop.run.entries c.args.shape.calls c.loop-i-test.true in
-    let steps-few : c.loop.run.steps ≤ 4143 = omega (arith, c.loop.invariant.3.1, here, c.requires.few) in
-    let t = turn_at in omega (arith, steps-few t, (come-to t).loop.inv.2, one-most (given_to t).args.closing)
+overflow_add-run c =
+    omega (arith, steps_few c.args.file.now c.args.shape c.args.schedule.now c.args.closing c.args.state c.args.slots.now c.args.log.now c.requires c.loop-i.run c.loop-i.slots c.loop-i.log c.loop-i.i c.loop-i.invariant.3 c.loop-i-test.true, c.loop-i.invariant.2, one_most c.args.closing)
 
 pub loop-i-preserved-then-is_idle : goal.loop-i-preserved-then-is_idle
-loop-i-preserved-then-is_idle c = 
-    let turn_at : Turn = c in
-    let calls : List Call = calls_of c.args.file.now c.args.shape in
-    let process : ℕ = get_or c.args.schedule.now c.loop.i 0 in
-    let here : c.loop.i < length c.args.schedule.now = goes_on _ _ c.loop.run.entries c.args.shape.calls c.loop-i-test.true in
-    let below-P : process < c.args.shape.processes = c.requires.below c.loop.i here in
-    let calls_are : AllIn c.args.shape.processes calls = let a = c.args in calls_in_lem a.file.now a.shape.processes a.shape.calls in
-    let t = turn_at in
-    let s = given_to t in
-    let l = (come-to t).loop in (
-      omega (arith, here t),
-      l.inv.1,
-      l.inv.2,
-      more t _ _ _
-          (way_idle (sizes_in s.args.shape) s.pre.fit s.args.closing (calls t) (calls_are t) l.run l.slots l.log l.inv.3.0.sound
-          (process t) (below-P t) (process_in c.ready-of.result) c.ready-of.ensures
-          (sym c.is_idle.ensures ∙ c.if-is_idle.true) _ l.inv.2 l.inv.3.0.becomes.whole),
+loop-i-preserved-then-is_idle c = (
+      omega (arith, here c.args.file.now c.args.shape c.args.schedule.now c.args.closing c.args.state c.args.slots.now c.args.log.now c.requires c.loop-i.run c.loop-i.slots c.loop-i.log c.loop-i.i c.loop-i.invariant.3 c.loop-i-test.true),
+      c.loop-i.invariant.1,
+      c.loop-i.invariant.2,
+      more c.args.file.now c.args.shape c.args.schedule.now c.args.closing c.args.state c.args.slots.now c.args.log.now c.requires c.loop-i.run c.loop-i.slots c.loop-i.log c.loop-i.i c.loop-i.invariant.3 c.loop-i-test.true _ _ _
+          (way_idle (sizes_in c.args.shape) c.requires.fit c.args.closing (calls_of c.args.file.now c.args.shape) (calls_are c.args.file.now c.args.shape c.args.schedule.now c.args.closing c.args.state c.args.slots.now c.args.log.now c.requires c.loop-i.run c.loop-i.slots c.loop-i.log c.loop-i.i c.loop-i.invariant.3 c.loop-i-test.true)
+          c.loop-i.run c.loop-i.slots c.loop-i.log c.loop-i.invariant.3.0.sound (get_or c.args.schedule.now c.loop-i.i 0) (below_P c.args.file.now c.args.shape c.args.schedule.now c.args.closing c.args.state c.args.slots.now c.args.log.now c.requires c.loop-i.run c.loop-i.slots c.loop-i.log c.loop-i.i c.loop-i.invariant.3 c.loop-i-test.true)
+          (process_in c.ready-of.result) c.ready-of.ensures
+          (sym c.is_idle.ensures ∙ c.if-is_idle.true) _ c.loop-i.invariant.2 c.loop-i.invariant.3.0.becomes.whole),
     )
 
 pub bounds-run-on : goal.bounds-run-on
-bounds-run-on c = 
-    let turn_at : Turn = c in
-    let ready_at : Ready = c in
-    let calls : List Call = calls_of c.args.file.now c.args.shape in
-    let process : ℕ = get_or c.args.schedule.now c.loop.i 0 in
-    let here : c.loop.i < length c.args.schedule.now = goes_on _ _ c.loop.run.entries c.args.shape.calls c.loop-i-test.true in
-    let below-P : process < c.args.shape.processes = c.requires.below c.loop.i here in
-    let calls_are : AllIn c.args.shape.processes calls = let a = c.args in calls_in_lem a.file.now a.shape.processes a.shape.calls in
-    let q-small : c.queue_of-q.result < 8 = let g = ready_at in
-    let t = turn_at g in
-    let s = given_to t in
-    let l = (come-to t).loop in
-    on_queue (sizes_in s.args.shape) s.pre.fit s.args.closing (calls t) (calls_are t) l.run l.slots l.log l.inv.3.0.sound
-    (process t) (below-P t) (process_in g.ready.result) g.ready.ensures
-    (sym c.is_idle.ensures ∙ c.if-is_idle.false) _ c.queue_of-q.ensures in
-    omega (arith, q-small)
+bounds-run-on c =
+    q_small c.args.file.now c.args.shape c.args.schedule.now c.args.closing c.args.state c.args.slots.now c.args.log.now c.requires c.loop-i.run c.loop-i.slots c.loop-i.log c.loop-i.i c.loop-i.invariant.3 c.loop-i-test.true (process_in c.ready-of.result) c.ready-of.ensures (sym c.is_idle.ensures ∙ c.if-is_idle.false) _ c.queue_of-q.ensures
 
 pub bounds-run-on-in-loop-i : goal.bounds-run-on-in-loop-i
-bounds-run-on-in-loop-i c = 
-    let turn_at : Turn = c in
-    let ready_at : Ready = c in
-    let calls : List Call = calls_of c.args.file.now c.args.shape in
-    let process : ℕ = get_or c.args.schedule.now c.loop.i 0 in
-    let here : c.loop.i < length c.args.schedule.now = goes_on _ _ c.loop.run.entries c.args.shape.calls c.loop-i-test.true in
-    let below-P : process < c.args.shape.processes = c.requires.below c.loop.i here in
-    let calls_are : AllIn c.args.shape.processes calls = let a = c.args in calls_in_lem a.file.now a.shape.processes a.shape.calls in
-    let q-small : c.queue_of-q.result < 8 = let g = ready_at in
-    let t = turn_at g in
-    let s = given_to t in
-    let l = (come-to t).loop in
-    on_queue (sizes_in s.args.shape) s.pre.fit s.args.closing (calls t) (calls_are t) l.run l.slots l.log l.inv.3.0.sound
-    (process t) (below-P t) (process_in g.ready.result) g.ready.ensures
-    (sym c.is_idle.ensures ∙ c.if-is_idle.false) _ c.queue_of-q.ensures in
-    omega (arith, q-small)
-
-pub step_slots-stepped-requires : goal.step_slots-stepped-requires
-step_slots-stepped-requires c = 
-    let turn_at : Turn = c in
-    let ready_at : Ready = c in
-    let calls : List Call = calls_of c.args.file.now c.args.shape in
-    let process : ℕ = get_or c.args.schedule.now c.loop.i 0 in
-    let here : c.loop.i < length c.args.schedule.now = goes_on _ _ c.loop.run.entries c.args.shape.calls c.loop-i-test.true in
-    let below-P : process < c.args.shape.processes = c.requires.below c.loop.i here in
-    let calls_are : AllIn c.args.shape.processes calls = let a = c.args in calls_in_lem a.file.now a.shape.processes a.shape.calls in
-    let q-small : c.queue_of-q.result < 8 = let g = ready_at in
-    let t = turn_at g in
-    let s = given_to t in
-    let l = (come-to t).loop in
-    on_queue (sizes_in s.args.shape) s.pre.fit s.args.closing (calls t) (calls_are t) l.run l.slots l.log l.inv.3.0.sound
-    (process t) (below-P t) (process_in g.ready.result) g.ready.ensures
-    (sym c.is_idle.ensures ∙ c.if-is_idle.false) _ c.queue_of-q.ensures in
-    let t = turn_at ready_at in
-    ((come-to t).loop.inv.1, q-small, (given_to t).pre.fit.size.1)
+bounds-run-on-in-loop-i c =
+    q_small c.args.file.now c.args.shape c.args.schedule.now c.args.closing c.args.state c.args.slots.now c.args.log.now c.requires c.loop-i.run c.loop-i.slots c.loop-i.log c.loop-i.i c.loop-i.invariant.3 c.loop-i-test.true (process_in c.ready-of.result) c.ready-of.ensures (sym c.is_idle.ensures ∙ c.if-is_idle.false) _ c.queue_of-q.ensures
 
 pub bounds-run-on-in-loop-i-2 : goal.bounds-run-on-in-loop-i-2
-bounds-run-on-in-loop-i-2 c = 
-    let turn_at : Turn = c in
-    let ready_at : Ready = c in
-    let calls : List Call = calls_of c.args.file.now c.args.shape in
-    let process : ℕ = get_or c.args.schedule.now c.loop.i 0 in
-    let here : c.loop.i < length c.args.schedule.now = goes_on _ _ c.loop.run.entries c.args.shape.calls c.loop-i-test.true in
-    let below-P : process < c.args.shape.processes = c.requires.below c.loop.i here in
-    let calls_are : AllIn c.args.shape.processes calls = let a = c.args in calls_in_lem a.file.now a.shape.processes a.shape.calls in
-    let q-small : c.queue_of-q.result < 8 = let g = ready_at in
-    let t = turn_at g in
-    let s = given_to t in
-    let l = (come-to t).loop in
-    on_queue (sizes_in s.args.shape) s.pre.fit s.args.closing (calls t) (calls_are t) l.run l.slots l.log l.inv.3.0.sound
-    (process t) (below-P t) (process_in g.ready.result) g.ready.ensures
-    (sym c.is_idle.ensures ∙ c.if-is_idle.false) _ c.queue_of-q.ensures in
-    omega (arith, q-small)
-
-pub bounds-run-at-then-not-is_idle : goal.bounds-run-at-then-not-is_idle
-bounds-run-at-then-not-is_idle c = 
-    let turn_at : Turn = c in
-    let ready_at : Ready = c in
-    let queue-at : Queued = c in
-    let turn-of : Turn = turn_at (ready_at queue-at) in
-    let process : ℕ = get_or c.args.schedule.now c.loop.i 0 in
-    let here : c.loop.i < length c.args.schedule.now = goes_on _ _ c.loop.run.entries c.args.shape.calls c.loop-i-test.true in
-    let below-P : process < c.args.shape.processes = c.requires.below c.loop.i here in
-    let p-small : process < 8 = omega (arith, below-P, c.requires.fit.processes) in
-    omega (arith, p-small turn-of)
-
-pub loop-i-preserved-then-not-is_idle : goal.loop-i-preserved-then-not-is_idle
-loop-i-preserved-then-not-is_idle c = 
-    let turn_at : Turn = c in
-    let ready_at : Ready = c in
-    let queue-at : Queued = c in
-    let calls : List Call = calls_of c.args.file.now c.args.shape in
-    let process : ℕ = get_or c.args.schedule.now c.loop.i 0 in
-    let here : c.loop.i < length c.args.schedule.now = goes_on _ _ c.loop.run.entries c.args.shape.calls c.loop-i-test.true in
-    let below-P : process < c.args.shape.processes = c.requires.below c.loop.i here in
-    let calls_are : AllIn c.args.shape.processes calls = let a = c.args in calls_in_lem a.file.now a.shape.processes a.shape.calls in
-    let q = queue-at in
-    let g = ready_at q in
-    let t = turn_at g in
-    let s = given_to t in
-    let l = (come-to t).loop in (
-      omega (arith, here t),
-      omega (arith, c.slots-1.given, l.inv.1),
-      l.inv.2,
-      more t _ _ _
-          (way_on (sizes_in s.args.shape) s.pre.fit s.args.closing (calls t) (calls_are t) l.run l.slots l.log l.inv.3.0.sound
-          (process t) (below-P t) (process_in g.ready.result) g.ready.ensures
-          (sym q.before.before.is-idle.ensures ∙ q.before.if2.left)
-          _ q.queue-of.ensures c.step_slots-stepped.result _ c.step_slots-stepped.ensures l.inv.3.0.becomes.whole
-          c.process_after-then.result c.process_after-then.ensures (sym c.is_idle-in-loop-i.ensures ∙ not_so _ c.if-not-is_idle.true)),
-    )
+bounds-run-on-in-loop-i-2 c =
+    q_small c.args.file.now c.args.shape c.args.schedule.now c.args.closing c.args.state c.args.slots.now c.args.log.now c.requires c.loop-i.run c.loop-i.slots c.loop-i.log c.loop-i.i c.loop-i.invariant.3 c.loop-i-test.true (process_in c.ready-of.result) c.ready-of.ensures (sym c.is_idle.ensures ∙ c.if-is_idle.false) _ c.queue_of-q.ensures
 
 pub bounds-run-on-in-loop-i-3 : goal.bounds-run-on-in-loop-i-3
-bounds-run-on-in-loop-i-3 c = 
-    let turn_at : Turn = c in
-    let ready_at : Ready = c in
-    let queue-at : Queued = c in
-    let calls : List Call = calls_of c.args.file.now c.args.shape in
-    let process : ℕ = get_or c.args.schedule.now c.loop.i 0 in
-    let here : c.loop.i < length c.args.schedule.now = goes_on _ _ c.loop.run.entries c.args.shape.calls c.loop-i-test.true in
-    let below-P : process < c.args.shape.processes = c.requires.below c.loop.i here in
-    let calls_are : AllIn c.args.shape.processes calls = let a = c.args in calls_in_lem a.file.now a.shape.processes a.shape.calls in
-    let q-small : c.queue_of-q.result < 8 = let g = ready_at in
-    let t = turn_at g in
-    let s = given_to t in
-    let l = (come-to t).loop in
-    on_queue (sizes_in s.args.shape) s.pre.fit s.args.closing (calls t) (calls_are t) l.run l.slots l.log l.inv.3.0.sound
-    (process t) (below-P t) (process_in g.ready.result) g.ready.ensures
-    (sym c.is_idle.ensures ∙ c.if-is_idle.false) _ c.queue_of-q.ensures in
-    omega (arith, q-small queue-at)
+bounds-run-on-in-loop-i-3 c =
+    q_small c.args.file.now c.args.shape c.args.schedule.now c.args.closing c.args.state c.args.slots.now c.args.log.now c.requires c.loop-i.run c.loop-i.slots c.loop-i.log c.loop-i.i c.loop-i.invariant.3 c.loop-i-test.true (process_in c.ready-of.result) c.ready-of.ensures (sym c.is_idle.ensures ∙ c.if-is_idle.false) _ c.queue_of-q.ensures
+
+pub bounds-run-on-in-loop-i-4 : goal.bounds-run-on-in-loop-i-4
+bounds-run-on-in-loop-i-4 c =
+    q_small c.args.file.now c.args.shape c.args.schedule.now c.args.closing c.args.state c.args.slots.now c.args.log.now c.requires c.loop-i.run c.loop-i.slots c.loop-i.log c.loop-i.i c.loop-i.invariant.3 c.loop-i-test.true (process_in c.ready-of.result) c.ready-of.ensures (sym c.is_idle.ensures ∙ c.if-is_idle.false) _ c.queue_of-q.ensures
+
+pub step_slots-stepped-requires : goal.step_slots-stepped-requires
+step_slots-stepped-requires c =
+    (c.loop-i.invariant.1, q_small c.args.file.now c.args.shape c.args.schedule.now c.args.closing c.args.state c.args.slots.now c.args.log.now c.requires c.loop-i.run c.loop-i.slots c.loop-i.log c.loop-i.i c.loop-i.invariant.3 c.loop-i-test.true (process_in c.ready-of.result) c.ready-of.ensures (sym c.is_idle.ensures ∙ c.if-is_idle.false) _ c.queue_of-q.ensures, c.requires.fit.size.1)
+
+pub bounds-run-at-then-not-is_idle : goal.bounds-run-at-then-not-is_idle
+bounds-run-at-then-not-is_idle c =
+    p_small c.args.file.now c.args.shape c.args.schedule.now c.args.closing c.args.state c.args.slots.now c.args.log.now c.requires c.loop-i.run c.loop-i.slots c.loop-i.log c.loop-i.i c.loop-i.invariant.3 c.loop-i-test.true
+
+pub bounds-run-at-in-loop-i : goal.bounds-run-at-in-loop-i
+bounds-run-at-in-loop-i c =
+    p_small c.args.file.now c.args.shape c.args.schedule.now c.args.closing c.args.state c.args.slots.now c.args.log.now c.requires c.loop-i.run c.loop-i.slots c.loop-i.log c.loop-i.i c.loop-i.invariant.3 c.loop-i-test.true
+
+pub loop-i-preserved-then-not-is_idle : goal.loop-i-preserved-then-not-is_idle
+loop-i-preserved-then-not-is_idle c = (
+      omega (arith, here c.args.file.now c.args.shape c.args.schedule.now c.args.closing c.args.state c.args.slots.now c.args.log.now c.requires c.loop-i.run c.loop-i.slots c.loop-i.log c.loop-i.i c.loop-i.invariant.3 c.loop-i-test.true),
+      omega (arith, c.step_slots-stepped.auto.slots, c.loop-i.invariant.1),
+      c.loop-i.invariant.2,
+      more c.args.file.now c.args.shape c.args.schedule.now c.args.closing c.args.state c.args.slots.now c.args.log.now c.requires c.loop-i.run c.loop-i.slots c.loop-i.log c.loop-i.i c.loop-i.invariant.3 c.loop-i-test.true _ _ _
+          (way_on (sizes_in c.args.shape) c.requires.fit c.args.closing (calls_of c.args.file.now c.args.shape) (calls_are c.args.file.now c.args.shape c.args.schedule.now c.args.closing c.args.state c.args.slots.now c.args.log.now c.requires c.loop-i.run c.loop-i.slots c.loop-i.log c.loop-i.i c.loop-i.invariant.3 c.loop-i-test.true)
+          c.loop-i.run c.loop-i.slots c.loop-i.log c.loop-i.invariant.3.0.sound (get_or c.args.schedule.now c.loop-i.i 0) (below_P c.args.file.now c.args.shape c.args.schedule.now c.args.closing c.args.state c.args.slots.now c.args.log.now c.requires c.loop-i.run c.loop-i.slots c.loop-i.log c.loop-i.i c.loop-i.invariant.3 c.loop-i-test.true)
+          (process_in c.ready-of.result) c.ready-of.ensures
+          (sym c.is_idle.ensures ∙ c.if-is_idle.false) _ c.queue_of-q.ensures c.step_slots-stepped.result _ c.step_slots-stepped.ensures
+          c.loop-i.invariant.3.0.becomes.whole c.process_after-then.result c.process_after-then.ensures
+          (sym c.is_idle-in-loop-i.ensures ∙ c.if-not-is_idle.true)),
+    )
 
 pub tell-told-requires : goal.tell-told-requires
 tell-told-requires c = 
-    let turn_at : Turn = c in
-    let ready_at : Ready = c in
-    let queue-at : Queued = c in
-    let calls : List Call = calls_of c.args.file.now c.args.shape in
-    let process : ℕ = get_or c.args.schedule.now c.loop.i 0 in
-    let here : c.loop.i < length c.args.schedule.now = goes_on _ _ c.loop.run.entries c.args.shape.calls c.loop-i-test.true in
-    let below-P : process < c.args.shape.processes = c.requires.below c.loop.i here in
-    let p-small : process < 8 = omega (arith, below-P, c.requires.fit.processes) in
-    let steps-few : c.loop.run.steps ≤ 4143 = omega (arith, c.loop.invariant.3.1, here, c.requires.few) in
-    let calls_are : AllIn c.args.shape.processes calls = let a = c.args in calls_in_lem a.file.now a.shape.processes a.shape.calls in
-    let q-small : c.queue_of-q.result < 8 = let g = ready_at in
-    let t = turn_at g in
-    let s = given_to t in
-    let l = (come-to t).loop in
-    on_queue (sizes_in s.args.shape) s.pre.fit s.args.closing (calls t) (calls_are t) l.run l.slots l.log l.inv.3.0.sound
-    (process t) (below-P t) (process_in g.ready.result) g.ready.ensures
-    (sym c.is_idle.ensures ∙ c.if-is_idle.false) _ c.queue_of-q.ensures in
-    let q = queue-at in
-    let g = ready_at q in
-    let t = turn_at g in
-    let l = (come-to t).loop in
-    let few = steps-few t in
-    let counted = l.inv.3.0.counted in (
+    let few = steps_few c.args.file.now c.args.shape c.args.schedule.now c.args.closing c.args.state c.args.slots.now c.args.log.now c.requires c.loop-i.run c.loop-i.slots c.loop-i.log c.loop-i.i c.loop-i.invariant.3 c.loop-i-test.true in
+    let counted = c.loop-i.invariant.3.0.counted in
+    let small = q_small c.args.file.now c.args.shape c.args.schedule.now c.args.closing c.args.state c.args.slots.now c.args.log.now c.requires c.loop-i.run c.loop-i.slots c.loop-i.log c.loop-i.i c.loop-i.invariant.3 c.loop-i-test.true (process_in c.ready-of.result) c.ready-of.ensures (sym c.is_idle.ensures ∙ c.if-is_idle.false) _ c.queue_of-q.ensures in (
       omega (arith, few),
       omega (
         arith,
         few,
-        held_b2 l.run l.run.entries counted (process t) (p-small t),
-        ap (λ (x : Process). x.b2) g.ready.ensures,
-        same_b2 (calls t) l.run.steps (record_in l.run (process t)) (given_to t).args.closing,
+        held_b2 c.loop-i.run c.loop-i.run.entries counted (get_or c.args.schedule.now c.loop-i.i 0) (p_small c.args.file.now c.args.shape c.args.schedule.now c.args.closing c.args.state c.args.slots.now c.args.log.now c.requires c.loop-i.run c.loop-i.slots c.loop-i.log c.loop-i.i c.loop-i.invariant.3 c.loop-i-test.true),
+        ap (λ (x : Process). x.b2) c.ready-of.ensures,
+        same_b2 (calls_of c.args.file.now c.args.shape) c.loop-i.run.steps (record_in c.loop-i.run (get_or c.args.schedule.now c.loop-i.i 0)) c.args.closing,
       ),
-      omega (arith, few, held_b2 l.run l.run.entries counted q.queue-of.result (q-small q)),
-      omega (arith, few, held_resets l.run l.run.entries counted q.queue-of.result (q-small q)),
+      omega (arith, few, held_b2 c.loop-i.run c.loop-i.run.entries counted c.queue_of-q.result small),
+      omega (arith, few, held_resets c.loop-i.run c.loop-i.run.entries counted c.queue_of-q.result small),
     )
 
-pub bounds-run-at-in-loop-i : goal.bounds-run-at-in-loop-i
-bounds-run-at-in-loop-i c = 
-    let turn_at : Turn = c in
-    let ready_at : Ready = c in
-    let queue-at : Queued = c in
-    let turn-of : Turn = turn_at (ready_at queue-at) in
-    let process : ℕ = get_or c.args.schedule.now c.loop.i 0 in
-    let here : c.loop.i < length c.args.schedule.now = goes_on _ _ c.loop.run.entries c.args.shape.calls c.loop-i-test.true in
-    let below-P : process < c.args.shape.processes = c.requires.below c.loop.i here in
-    let p-small : process < 8 = omega (arith, below-P, c.requires.fit.processes) in
-    omega (arith, p-small turn-of)
-
-pub bounds-run-on-in-loop-i-4 : goal.bounds-run-on-in-loop-i-4
-bounds-run-on-in-loop-i-4 c = 
-    let turn_at : Turn = c in
-    let ready_at : Ready = c in
-    let queue-at : Queued = c in
-    let calls : List Call = calls_of c.args.file.now c.args.shape in
-    let process : ℕ = get_or c.args.schedule.now c.loop.i 0 in
-    let here : c.loop.i < length c.args.schedule.now = goes_on _ _ c.loop.run.entries c.args.shape.calls c.loop-i-test.true in
-    let below-P : process < c.args.shape.processes = c.requires.below c.loop.i here in
-    let calls_are : AllIn c.args.shape.processes calls = let a = c.args in calls_in_lem a.file.now a.shape.processes a.shape.calls in
-    let q-small : c.queue_of-q.result < 8 = let g = ready_at in
-    let t = turn_at g in
-    let s = given_to t in
-    let l = (come-to t).loop in
-    on_queue (sizes_in s.args.shape) s.pre.fit s.args.closing (calls t) (calls_are t) l.run l.slots l.log l.inv.3.0.sound
-    (process t) (below-P t) (process_in g.ready.result) g.ready.ensures
-    (sym c.is_idle.ensures ∙ c.if-is_idle.false) _ c.queue_of-q.ensures in
-    omega (arith, q-small queue-at)
-
 pub overflow_add-run-in-loop-i-2 : goal.overflow_add-run-in-loop-i-2
-overflow_add-run-in-loop-i-2 c = 
-    let turn_at : Turn = c in
-    let ready_at : Ready = c in
-    let queue-at : Queued = c in
-    let turn-of : Turn = turn_at (ready_at queue-at) in
-    let here : c.loop.i < length c.args.schedule.now = goes_on _ _ c.loop.run.entries c.args.shape.calls c.loop-i-test.true in
-    let steps-few : c.loop.run.steps ≤ 4143 = omega (arith, c.loop.invariant.3.1, here, c.requires.few) in
-    let t = turn-of in
-    let told = c.tell-told.ensures in
-    omega (arith, steps-few t, (come-to t).loop.inv.3.0.counted.logged, told.more, entries_few told.over)
-
-pub overflow_add-run-in-loop-i-3 : goal.overflow_add-run-in-loop-i-3
-overflow_add-run-in-loop-i-3 c = 
-    let turn_at : Turn = c in
-    let ready_at : Ready = c in
-    let queue-at : Queued = c in
-    let turn-of : Turn = turn_at (ready_at queue-at) in
-    let here : c.loop.i < length c.args.schedule.now = goes_on _ _ c.loop.run.entries c.args.shape.calls c.loop-i-test.true in
-    let steps-few : c.loop.run.steps ≤ 4143 = omega (arith, c.loop.invariant.3.1, here, c.requires.few) in
-    let q = queue-at in
-    let l = (come-to turn-of).loop in
+overflow_add-run-in-loop-i-2 c =
     omega (
       arith,
-      steps-few turn-of,
-      l.inv.3.0.counted.gone,
+      steps_few c.args.file.now c.args.shape c.args.schedule.now c.args.closing c.args.state c.args.slots.now c.args.log.now c.requires c.loop-i.run c.loop-i.slots c.loop-i.log c.loop-i.i c.loop-i.invariant.3 c.loop-i-test.true,
+      c.loop-i.invariant.3.0.counted.logged,
+      c.tell-told.ensures.more,
+      entries_few c.tell-told.ensures.over,
+    )
+
+pub overflow_add-run-in-loop-i-3 : goal.overflow_add-run-in-loop-i-3
+overflow_add-run-in-loop-i-3 c =
+    omega (
+      arith,
+      steps_few c.args.file.now c.args.shape c.args.schedule.now c.args.closing c.args.state c.args.slots.now c.args.log.now c.requires c.loop-i.run c.loop-i.slots c.loop-i.log c.loop-i.i c.loop-i.invariant.3 c.loop-i-test.true,
+      c.loop-i.invariant.3.0.counted.gone,
       c.tell-told.ensures.gone,
-      gone_most (process_in (ready_at q).ready.result) (get_or l.run.resets q.queue-of.result 0)
-          c.step_slots-stepped.result.next,
+      gone_most (process_in c.ready-of.result) (get_or c.loop-i.run.resets c.queue_of-q.result 0) c.step_slots-stepped.result.next,
     )
 
 pub loop-i-preserved : goal.loop-i-preserved
-loop-i-preserved c = 
-    let turn_at : Turn = c in
-    let ready_at : Ready = c in
-    let queue-at : Queued = c in
-    let calls : List Call = calls_of c.args.file.now c.args.shape in
-    let process : ℕ = get_or c.args.schedule.now c.loop.i 0 in
-    let here : c.loop.i < length c.args.schedule.now = goes_on _ _ c.loop.run.entries c.args.shape.calls c.loop-i-test.true in
-    let below-P : process < c.args.shape.processes = c.requires.below c.loop.i here in
-    let calls_are : AllIn c.args.shape.processes calls = let a = c.args in calls_in_lem a.file.now a.shape.processes a.shape.calls in
-    let o = c.tell-told in
-    let q = queue-at in
-    let g = ready_at q in
-    let t = turn_at g in
-    let s = given_to t in
-    let l = (come-to t).loop in (
-      omega (arith, here t),
-      omega (arith, c.slots-1.given, l.inv.1),
-      l.inv.2,
-      more t _ _ _
-          (way_ends (sizes_in s.args.shape) s.pre.fit s.args.closing (calls t) (calls_are t) l.run l.slots l.log l.inv.3.0.sound
-          (process t) (below-P t) (process_in g.ready.result) g.ready.ensures
-          (sym q.before.before.is-idle.ensures ∙ q.before.if2.left)
-          _ q.queue-of.ensures c.step_slots-stepped.result _ c.step_slots-stepped.ensures l.inv.3.0.becomes.whole
-          c.process_after-then.result c.process_after-then.ensures o.result _ o.ensures),
+loop-i-preserved c = (
+      omega (arith, here c.args.file.now c.args.shape c.args.schedule.now c.args.closing c.args.state c.args.slots.now c.args.log.now c.requires c.loop-i.run c.loop-i.slots c.loop-i.log c.loop-i.i c.loop-i.invariant.3 c.loop-i-test.true),
+      omega (arith, c.step_slots-stepped.auto.slots, c.loop-i.invariant.1),
+      c.loop-i.invariant.2,
+      more c.args.file.now c.args.shape c.args.schedule.now c.args.closing c.args.state c.args.slots.now c.args.log.now c.requires c.loop-i.run c.loop-i.slots c.loop-i.log c.loop-i.i c.loop-i.invariant.3 c.loop-i-test.true _ _ _
+          (way_ends (sizes_in c.args.shape) c.requires.fit c.args.closing (calls_of c.args.file.now c.args.shape) (calls_are c.args.file.now c.args.shape c.args.schedule.now c.args.closing c.args.state c.args.slots.now c.args.log.now c.requires c.loop-i.run c.loop-i.slots c.loop-i.log c.loop-i.i c.loop-i.invariant.3 c.loop-i-test.true)
+          c.loop-i.run c.loop-i.slots c.loop-i.log c.loop-i.invariant.3.0.sound (get_or c.args.schedule.now c.loop-i.i 0) (below_P c.args.file.now c.args.shape c.args.schedule.now c.args.closing c.args.state c.args.slots.now c.args.log.now c.requires c.loop-i.run c.loop-i.slots c.loop-i.log c.loop-i.i c.loop-i.invariant.3 c.loop-i-test.true)
+          (process_in c.ready-of.result) c.ready-of.ensures
+          (sym c.is_idle.ensures ∙ c.if-is_idle.false) _ c.queue_of-q.ensures c.step_slots-stepped.result _ c.step_slots-stepped.ensures
+          c.loop-i.invariant.3.0.becomes.whole c.process_after-then.result c.process_after-then.ensures
+          c.tell-told.result _ c.tell-told.ensures),
     )
 
 pub returns : goal.returns
-returns c = let l = c.loop-i in
+returns c =
     walked_all (sizes_in c.args.shape) _ _ c.args.closing (calls_of c.args.file.now c.args.shape) c.args.schedule.now
-    _ _ _ _ _ _ l.invariant.3 (length c.args.schedule.now) _ refl c.loop-i-test.false c.if_so.ensures
+    _ _ _ _ _ _ c.loop-i.invariant.3 (length c.args.schedule.now) _ refl c.loop-i-test.false c.if_so.ensures
