@@ -9,7 +9,7 @@ use lib.ListN.{length}
 use Rattle.word.specs.Range.{in_range}
 use Rattle.word.specs.Inner.InRange.{SizesIn, WordIn, StageIn, InRange}
 use Rattle.word.proofs.RangeLaws.{in_range_lem, range_in}
-use Rattle.steps.specs.Step.{row_of, loaded_slot, loaded, stored, stepped_on, stage_after, result_of as next_result, StepOn}
+use Rattle.steps.specs.Step.{row_of, loaded_slot, loaded, stored, stepped_on, StepOn}
 use Rattle.steps.proofs.StepLaws.{sixteen_in}
 use Rattle.desk.specs.Refusals.{OfB, OfAge, From, Refuses, width_high, size_low, size_high, slots_not_C, bottom_above, top_above, b_above}
 use Rattle.desk.specs.Refusals.{t_above, word_tag, stage_tag, push_b, take_t, pop_b}

@@ -96,7 +96,10 @@ pub fn top_nil(e: Entry) -> bool
 pub fn took_after(e: Entry, took: u32) -> u32
     ensures { result ≡ took_after e took }
 {
-    if !(e.kind == call_log::PUSH) & !(e.kind == call_log::BOTTOM_POP) & (e.result == call_log::DONE) {
+    if !(e.kind == call_log::PUSH)
+        & !(e.kind == call_log::BOTTOM_POP)
+        & (e.result == call_log::DONE)
+    {
         e.moment as u32 + 1
     } else {
         took

@@ -27,7 +27,7 @@ use Rattle.rules.specs.Judge.{says, first1, first2, first3, first4, first5, firs
 use Rattle.rules.specs.Accepted.{Rule4, EmptyIn, RemovedIn, Accepted, entry_of, AcceptedLog, AcceptedBytes, JudgedZero}
 use Rattle.base.proofs.Bools.{contra, not_so, and_i, and_0, and_1, or_l, or_r, or_e, guarded, not_i, not_e, not_f}
 use Rattle.rules.proofs.SearchLaws.{from_i, from_e, Found, any_e, any_i, none_passes, none, any_no, Hit, lowest_is, lowest_le}
-use Rattle.rules.proofs.FieldLaws.{fields_back, order_back, moment, moment_back}
+use Rattle.rules.proofs.FieldLaws.{fields_back, order_back, moment_back}
 use Rattle.rules.proofs.KeptLaws.{fields_of, order_of, moments_of, distinct}
 use Rattle.rules.proofs.ContentLaws.{topmost}
 use Rattle.rules.proofs.Rule6Laws.{rule6_from, rule6_to}

@@ -1,5 +1,5 @@
 -- What holds in every state of every run, whatever calls its processes begin: words, slots and stages are in range.
-use Prim.Native.Nat.{ℕ, ◌-◌, ◌≤◌, ◌<◌}
+use Prim.Native.Nat.{ℕ, ◌≤◌, ◌<◌}
 use mathlib.Core.Path.{◌≡◌, refl, sym, ap, ◌∙◌, subst}
 use mathlib.Core.Bool.{Bool, true, false, cond, ◌&&◌}
 use mathlib.Core.List.{List, []}
@@ -21,7 +21,7 @@ use Rattle.runfile.specs.declared.Call.{Call}
 use Rattle.call_log.specs.declared.Entry.{Entry}
 use Rattle.runfile.specs.declared.Call.TheVariants.{Push, Pop, Take}
 use Rattle.runs.specs.Moment.{queue_of}
-use Rattle.runs.specs.State.{Process, Queue, State, fresh, nobody, queue_at, process_at, start}
+use Rattle.runs.specs.State.{Process, Queue, State, fresh, nobody, queue_at, process_at}
 use Rattle.runs.specs.Turn.{first_stage, begun, process_after, stepping, acted, act, idle, turning, turn_as, turn}
 use Rattle.base.proofs.Cases.{never, if_set}
 use Rattle.runs.proofs.KindLaws.{within, still_suits, first_suits, idle_is}

@@ -8,7 +8,8 @@ use lib.ListN.{length, length-set}
 use Rattle.base.proofs.put.Goals as goal
 
 pub loop-i-preserved : goal.loop-i-preserved
-loop-i-preserved c = let a = c.args in
+loop-i-preserved c =
+    let a = c.args in
     let l = c.loop-i in
     let room : a.at + l.i < length a.buffer.now = omega arith in (
       search rules,

@@ -8,9 +8,9 @@ use Rattle.bench.proofs.steps.Goals as goal
 -- In each: s is the start of the function, k where the file's bytes are known, t the bench's start, g the schedule's place and w the walk.
 pub slice_bounds-walk-end : goal.slice_bounds-walk-end
 slice_bounds-walk-end c = omega (
-      arith,
-      schedule_fits c.args.file.now (λ i. (c.shared_slice_known-1.given i).fits) c.args.shape c.requires.0 _ c.schedule_place-from.ensures.0,
-    )
+  arith,
+  schedule_fits c.args.file.now (λ i. (c.shared_slice_known-1.given i).fits) c.args.shape c.requires.0 _ c.schedule_place-from.ensures.0,
+)
 
 pub walk-played-requires : goal.walk-played-requires
 walk-played-requires c = to_walk c.args.file.now (λ i. (c.shared_slice_known-1.given i).fits) c.args.shape c.requires.0 _ c.schedule_place-from.ensures.0

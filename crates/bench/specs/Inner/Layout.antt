@@ -14,7 +14,6 @@ use Rattle.word.specs.Inner.StepsLeft.{steps_left}
 use Rattle.word.specs.declared.Stage.{Stage}
 use Rattle.word.specs.declared.Stage.TheVariants.{Idle}
 use Rattle.runfile.specs.File.{most_size}
-use Rattle.runfile.specs.declared.Call.{Call}
 use Rattle.runfile.specs.declared.Call.TheVariants.{Push}
 use Rattle.runfile.specs.declared.Shape.{Shape}
 use Rattle.runs.specs.State.{Queue, Process, Bench, State, queue_count, process_at}

@@ -10,13 +10,14 @@ use Rattle.fields.proofs.keeps_fields.Goals as goal
 use Rattle.fields.proofs.keeps_fields.Goals.{then-e-eq0, else-e-eq0}
 
 pub returns : goal.returns
-returns c = let a = c.args in
+returns c =
+    let a = c.args in
     let e = a.e in
     let t = c.if-e-eq0.table in
     let table : t ≡ cond (eqb e.node 0) without_node with_node =
     elim c.if-e-eq0.branch as (λ _. t ≡ cond (eqb e.node 0) without_node with_node) [
-      then-e-eq0 w ↦ table_none e.node t w.if-e-eq0.true w.table-is
-    | else-e-eq0 w ↦ table_some e.node t w.if-e-eq0.false w.table-is
+      | then-e-eq0 w ↦ table_none e.node t w.if-e-eq0.true w.table-is
+      | else-e-eq0 w ↦ table_some e.node t w.if-e-eq0.false w.table-is
     ] in
     let told = c.stands-told.ensures
     ∙ ap (λ (t : ℕ). stands_in t e.kind e.result) table in

@@ -11,7 +11,7 @@ use Rattle.judge.specs.Inner.Order.{Ordered}
 use Rattle.judge.proofs.moment_rules_in.Goals as goal
 
 pub last_rules-requires : goal.last_rules-requires
-last_rules-requires c = 
+last_rules-requires c =
     let log-of : ℕ → Entry = entry_at c.args.log.now in
     let kept3 : c.args.n ≤ first3 (log-of start1) c.args.n = pass _ _ _ c.by_moment-sorted.ensures.0 c.if-j3-n.false in
     let kept4 : c.args.n ≤ first4 (log-of start2) c.args.n = pass _ _ _ c.first_unlawful-j4.ensures c.if-j4-n.false in

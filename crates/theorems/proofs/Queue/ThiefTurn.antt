@@ -29,7 +29,7 @@ use Rattle.theorems.proofs.Queue.Cases.{if_age, top_nil_lem}
 use Rattle.runs.specs.Inner.Sound.{is_top}
 use Rattle.base.proofs.Lists.{in_last, in_snoc}
 use Rattle.theorems.proofs.Queue.Lists.{slice_none}
-use Rattle.theorems.proofs.Queue.Content.{is_at, turn, content, content_suc, add_none, add_past, swap}
+use Rattle.theorems.proofs.Queue.Content.{is_at, content, content_suc, add_none, add_past, swap}
 use Rattle.theorems.proofs.Queue.Memory.{Memory, row_in, memory_after, with_top, lim, until, lim_past, log_after}
 use Rattle.theorems.proofs.Queue.Inv.{Control, QueueOk, Cause, Right, Calm, still, void, took, old, same, more, Turn, view, pending, AtTop}
 use Rattle.theorems.proofs.Queue.Inv.{Seen, Reach, Why, hit, age}

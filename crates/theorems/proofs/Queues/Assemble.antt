@@ -1,5 +1,5 @@
 -- A step of process p on queue q: the invariant of the whole from what the step gives for p and q.
-use Prim.Native.Nat.{ℕ, suc, ◌+◌, ◌-◌, ◌*◌, ◌≤◌, ◌<◌}
+use Prim.Native.Nat.{ℕ, suc, ◌+◌, ◌*◌, ◌≤◌, ◌<◌}
 use mathlib.Core.Path.{◌≡◌, refl, sym, ap, ◌∙◌, subst}
 use mathlib.Core.Bool.{true}
 use mathlib.Core.List.{List, [], ◌∷◌, ◌++◌}
@@ -10,7 +10,7 @@ use Rattle.call_log.specs.declared.Entry.{Entry}
 use Rattle.word.specs.Stages.{past_b2}
 use Rattle.steps.specs.Step.{stored}
 use Rattle.steps.specs.declared.Stepped.{Stepped}
-use Rattle.runs.specs.Moment.{queue_of, ended}
+use Rattle.runs.specs.Moment.{queue_of}
 use Rattle.runs.specs.State.{Process, Queue, State, fresh, nobody, queue_at, process_at}
 use Rattle.runs.specs.Turn.{process_after, queue_after, ending, acted}
 use Rattle.base.proofs.Cases.{if_set}

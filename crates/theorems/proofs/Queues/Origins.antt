@@ -22,7 +22,7 @@ use Rattle.runfile.specs.File.{RunFile}
 use Rattle.runfile.specs.declared.Call.TheVariants.{Push, Pop}
 use Rattle.runs.specs.Moment.{queue_of, pushed_node, is_take, entry, nil_moment, take_moment, node_entry, nil_entry}
 use Rattle.runs.specs.State.{Process, State, nobody, queue_at, process_at, start}
-use Rattle.runs.specs.Turn.{begun, process_after, ending, acted}
+use Rattle.runs.specs.Turn.{process_after, ending, acted}
 use Rattle.runs.proofs.KindLaws.{Gives, gives}
 use Rattle.runs.specs.Inner.Sound.{is_push, Sound, slots_at}
 use Rattle.base.specs.Lists.{All, Pairs}

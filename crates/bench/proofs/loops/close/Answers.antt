@@ -10,19 +10,21 @@ use Rattle.bench.proofs.loops.close.Goals as goal
 
 pub loop-done-init : goal.loop-done-init
 loop-done-init c = (
-      omega arith,
-      c.requires.all_slots,
-      closing_start (sizes_in c.args.shape) c.args.shape.calls _ _ _ c.requires.whole c.requires.counted
-          c.requires.sound c.requires.left c.requires.six c.requires.few,
-    )
+  omega arith,
+  c.requires.all_slots,
+  closing_start (sizes_in c.args.shape) c.args.shape.calls _ _ _ c.requires.whole c.requires.counted
+      c.requires.sound c.requires.left c.requires.six c.requires.few,
+)
 
 pub returns-then-set-eq0 : goal.returns-then-set-eq0
-returns-then-set-eq0 c = let l = c.loop-done in
+returns-then-set-eq0 c =
+    let l = c.loop-done in
     closing_over (sizes_in c.args.shape) _ _ _ _ _ _ _ _ l.invariant.2 l.invariant.0
     (run_closed (bench_in l.after).processes l.invariant.2.along.counted.processes _ c.half_done-set.ensures c.if-set-eq0.true)
 
 pub walk-after-requires : goal.walk-after-requires
-walk-after-requires c = let l = c.loop-done in
+walk-after-requires c =
+    let l = c.loop-done in
     let h = c.half_done-set in
     let along = l.invariant.2.along in
     let next = next_closed (bench_in l.after).processes along.counted.processes _ h.ensures in
@@ -39,7 +41,8 @@ walk-after-requires c = let l = c.loop-done in
     }
 
 pub loop-done-preserved : goal.loop-done-preserved
-loop-done-preserved c = let l = c.loop-done in
+loop-done-preserved c =
+    let l = c.loop-done in
     let h = c.half_done-set in
     let along = l.invariant.2.along in
     let next = next_closed (bench_in l.after).processes along.counted.processes _ h.ensures in
@@ -54,5 +57,6 @@ loop-done-preserved c = let l = c.loop-done in
     )
 
 pub returns : goal.returns
-returns c = let l = c.loop-done in
+returns c =
+    let l = c.loop-done in
     closing_all (sizes_in c.args.shape) _ _ _ _ _ _ _ _ l.invariant.2 (omega (arith, l.invariant.0, c.loop-done-test.false))

@@ -25,7 +25,8 @@ half_of : (l : List HeldProcess) (i half : ℕ) → i < 8 → half ≡ bit (is_i
 half_of l i half lt e = e ∙ ap (λ (x : Process). bit (is_idle x.stage)) (sym (list_of_get_d 8 (process_at_in l) nobody i lt))
 
 pub loop-i-preserved : goal.loop-i-preserved
-loop-i-preserved c = let l = c.args.processes in
+loop-i-preserved c =
+    let l = c.args.processes in
     let h = c.loop-i in
     let more = c.loop-i-test.true in (
       omega arith,

@@ -1,7 +1,7 @@
 -- `loops::walk` meets its contract: after i steps the bench stands for the state that the first i bytes of the schedule lead to.
-use Prim.Native.Nat.{ℕ, ◌+◌, ◌-◌, ◌≤◌, ◌<◌}
+use Prim.Native.Nat.{ℕ, ◌+◌, ◌≤◌, ◌<◌}
 use mathlib.Core.Path.{◌≡◌, refl, sym, ap, ◌∙◌}
-use mathlib.Core.Bool.{Bool, true, false, ◌&&◌, cond, not}
+use mathlib.Core.Bool.{Bool, true, false, ◌&&◌, cond}
 use mathlib.Core.List.{List}
 use lib.Dec.{ltb}
 use lib.ListN.{length, get_or}
@@ -12,7 +12,6 @@ use Rattle.runs.specs.Moment.{queue_of}
 use Rattle.runs.specs.Turn.{ready}
 use Rattle.runs.specs.Inner.Sound.{AllIn}
 use Rattle.runs.proofs.TurnLaws.{calls_in_lem, entries_few, gone_most}
-use Rattle.runfile.specs.declared.Call.{Call}
 use Rattle.runfile.specs.declared.Shape.{Shape}
 use Rattle.records.specs.Inner.Records.{process_in}
 use Rattle.bench.specs.Inner.Layout.{record_in, state_in, sizes_in, Becomes, ToWalk}
@@ -65,15 +64,14 @@ module _ (file : List ℕ) (a : Shape) (schedule : List ℕ) (closing : Bool) (s
   q_small r d busy q e =
       on_queue (sizes_in a) given.fit closing (calls_of file a) calls_are run slots log come.0.sound (get_or schedule i 0) below_P r d busy q e
 
-
 pub loop-i-init : goal.loop-i-init
 loop-i-init c = (
-      omega arith,
-      c.requires.all_slots,
-      c.if_so-idle.ensures,
-      walked_start (sizes_in c.args.shape) c.args.shape.calls c.args.closing (calls_of c.args.file.now c.args.shape)
-          c.args.schedule.now _ _ _ c.requires.whole c.requires.counted c.requires.sound c.requires.left,
-    )
+  omega arith,
+  c.requires.all_slots,
+  c.if_so-idle.ensures,
+  walked_start (sizes_in c.args.shape) c.args.shape.calls c.args.closing (calls_of c.args.file.now c.args.shape)
+      c.args.schedule.now _ _ _ c.requires.whole c.requires.counted c.requires.sound c.requires.left,
+)
 
 pub overflow_add-run : goal.overflow_add-run
 overflow_add-run c =
@@ -81,15 +79,15 @@ overflow_add-run c =
 
 pub loop-i-preserved-then-is_idle : goal.loop-i-preserved-then-is_idle
 loop-i-preserved-then-is_idle c = (
-      omega (arith, here c.args.file.now c.args.shape c.args.schedule.now c.args.closing c.args.state c.args.slots.now c.args.log.now c.requires c.loop-i.run c.loop-i.slots c.loop-i.log c.loop-i.i c.loop-i.invariant.3 c.loop-i-test.true),
-      c.loop-i.invariant.1,
-      c.loop-i.invariant.2,
-      more c.args.file.now c.args.shape c.args.schedule.now c.args.closing c.args.state c.args.slots.now c.args.log.now c.requires c.loop-i.run c.loop-i.slots c.loop-i.log c.loop-i.i c.loop-i.invariant.3 c.loop-i-test.true _ _ _
-          (way_idle (sizes_in c.args.shape) c.requires.fit c.args.closing (calls_of c.args.file.now c.args.shape) (calls_are c.args.file.now c.args.shape c.args.schedule.now c.args.closing c.args.state c.args.slots.now c.args.log.now c.requires c.loop-i.run c.loop-i.slots c.loop-i.log c.loop-i.i c.loop-i.invariant.3 c.loop-i-test.true)
-          c.loop-i.run c.loop-i.slots c.loop-i.log c.loop-i.invariant.3.0.sound (get_or c.args.schedule.now c.loop-i.i 0) (below_P c.args.file.now c.args.shape c.args.schedule.now c.args.closing c.args.state c.args.slots.now c.args.log.now c.requires c.loop-i.run c.loop-i.slots c.loop-i.log c.loop-i.i c.loop-i.invariant.3 c.loop-i-test.true)
-          (process_in c.ready-of.result) c.ready-of.ensures
-          (sym c.is_idle.ensures ∙ c.if-is_idle.true) _ c.loop-i.invariant.2 c.loop-i.invariant.3.0.becomes.whole),
-    )
+  omega (arith, here c.args.file.now c.args.shape c.args.schedule.now c.args.closing c.args.state c.args.slots.now c.args.log.now c.requires c.loop-i.run c.loop-i.slots c.loop-i.log c.loop-i.i c.loop-i.invariant.3 c.loop-i-test.true),
+  c.loop-i.invariant.1,
+  c.loop-i.invariant.2,
+  more c.args.file.now c.args.shape c.args.schedule.now c.args.closing c.args.state c.args.slots.now c.args.log.now c.requires c.loop-i.run c.loop-i.slots c.loop-i.log c.loop-i.i c.loop-i.invariant.3 c.loop-i-test.true _ _ _
+      (way_idle (sizes_in c.args.shape) c.requires.fit c.args.closing (calls_of c.args.file.now c.args.shape) (calls_are c.args.file.now c.args.shape c.args.schedule.now c.args.closing c.args.state c.args.slots.now c.args.log.now c.requires c.loop-i.run c.loop-i.slots c.loop-i.log c.loop-i.i c.loop-i.invariant.3 c.loop-i-test.true)
+      c.loop-i.run c.loop-i.slots c.loop-i.log c.loop-i.invariant.3.0.sound (get_or c.args.schedule.now c.loop-i.i 0) (below_P c.args.file.now c.args.shape c.args.schedule.now c.args.closing c.args.state c.args.slots.now c.args.log.now c.requires c.loop-i.run c.loop-i.slots c.loop-i.log c.loop-i.i c.loop-i.invariant.3 c.loop-i-test.true)
+      (process_in c.ready-of.result) c.ready-of.ensures
+      (sym c.is_idle.ensures ∙ c.if-is_idle.true) _ c.loop-i.invariant.2 c.loop-i.invariant.3.0.becomes.whole),
+)
 
 pub bounds-run-on : goal.bounds-run-on
 bounds-run-on c =
@@ -125,20 +123,20 @@ bounds-run-at-in-loop-i c =
 
 pub loop-i-preserved-then-not-is_idle : goal.loop-i-preserved-then-not-is_idle
 loop-i-preserved-then-not-is_idle c = (
-      omega (arith, here c.args.file.now c.args.shape c.args.schedule.now c.args.closing c.args.state c.args.slots.now c.args.log.now c.requires c.loop-i.run c.loop-i.slots c.loop-i.log c.loop-i.i c.loop-i.invariant.3 c.loop-i-test.true),
-      omega (arith, c.step_slots-stepped.auto.slots, c.loop-i.invariant.1),
-      c.loop-i.invariant.2,
-      more c.args.file.now c.args.shape c.args.schedule.now c.args.closing c.args.state c.args.slots.now c.args.log.now c.requires c.loop-i.run c.loop-i.slots c.loop-i.log c.loop-i.i c.loop-i.invariant.3 c.loop-i-test.true _ _ _
-          (way_on (sizes_in c.args.shape) c.requires.fit c.args.closing (calls_of c.args.file.now c.args.shape) (calls_are c.args.file.now c.args.shape c.args.schedule.now c.args.closing c.args.state c.args.slots.now c.args.log.now c.requires c.loop-i.run c.loop-i.slots c.loop-i.log c.loop-i.i c.loop-i.invariant.3 c.loop-i-test.true)
-          c.loop-i.run c.loop-i.slots c.loop-i.log c.loop-i.invariant.3.0.sound (get_or c.args.schedule.now c.loop-i.i 0) (below_P c.args.file.now c.args.shape c.args.schedule.now c.args.closing c.args.state c.args.slots.now c.args.log.now c.requires c.loop-i.run c.loop-i.slots c.loop-i.log c.loop-i.i c.loop-i.invariant.3 c.loop-i-test.true)
-          (process_in c.ready-of.result) c.ready-of.ensures
-          (sym c.is_idle.ensures ∙ c.if-is_idle.false) _ c.queue_of-q.ensures c.step_slots-stepped.result _ c.step_slots-stepped.ensures
-          c.loop-i.invariant.3.0.becomes.whole c.process_after-then.result c.process_after-then.ensures
-          (sym c.is_idle-in-loop-i.ensures ∙ c.if-not-is_idle.true)),
-    )
+  omega (arith, here c.args.file.now c.args.shape c.args.schedule.now c.args.closing c.args.state c.args.slots.now c.args.log.now c.requires c.loop-i.run c.loop-i.slots c.loop-i.log c.loop-i.i c.loop-i.invariant.3 c.loop-i-test.true),
+  omega (arith, c.step_slots-stepped.auto.slots, c.loop-i.invariant.1),
+  c.loop-i.invariant.2,
+  more c.args.file.now c.args.shape c.args.schedule.now c.args.closing c.args.state c.args.slots.now c.args.log.now c.requires c.loop-i.run c.loop-i.slots c.loop-i.log c.loop-i.i c.loop-i.invariant.3 c.loop-i-test.true _ _ _
+      (way_on (sizes_in c.args.shape) c.requires.fit c.args.closing (calls_of c.args.file.now c.args.shape) (calls_are c.args.file.now c.args.shape c.args.schedule.now c.args.closing c.args.state c.args.slots.now c.args.log.now c.requires c.loop-i.run c.loop-i.slots c.loop-i.log c.loop-i.i c.loop-i.invariant.3 c.loop-i-test.true)
+      c.loop-i.run c.loop-i.slots c.loop-i.log c.loop-i.invariant.3.0.sound (get_or c.args.schedule.now c.loop-i.i 0) (below_P c.args.file.now c.args.shape c.args.schedule.now c.args.closing c.args.state c.args.slots.now c.args.log.now c.requires c.loop-i.run c.loop-i.slots c.loop-i.log c.loop-i.i c.loop-i.invariant.3 c.loop-i-test.true)
+      (process_in c.ready-of.result) c.ready-of.ensures
+      (sym c.is_idle.ensures ∙ c.if-is_idle.false) _ c.queue_of-q.ensures c.step_slots-stepped.result _ c.step_slots-stepped.ensures
+      c.loop-i.invariant.3.0.becomes.whole c.process_after-then.result c.process_after-then.ensures
+      (sym c.is_idle-in-loop-i.ensures ∙ c.if-not-is_idle.true)),
+)
 
 pub tell-told-requires : goal.tell-told-requires
-tell-told-requires c = 
+tell-told-requires c =
     let few = steps_few c.args.file.now c.args.shape c.args.schedule.now c.args.closing c.args.state c.args.slots.now c.args.log.now c.requires c.loop-i.run c.loop-i.slots c.loop-i.log c.loop-i.i c.loop-i.invariant.3 c.loop-i-test.true in
     let counted = c.loop-i.invariant.3.0.counted in
     let small = q_small c.args.file.now c.args.shape c.args.schedule.now c.args.closing c.args.state c.args.slots.now c.args.log.now c.requires c.loop-i.run c.loop-i.slots c.loop-i.log c.loop-i.i c.loop-i.invariant.3 c.loop-i-test.true (process_in c.ready-of.result) c.ready-of.ensures (sym c.is_idle.ensures ∙ c.if-is_idle.false) _ c.queue_of-q.ensures in (
@@ -176,17 +174,17 @@ overflow_add-run-in-loop-i-3 c =
 
 pub loop-i-preserved : goal.loop-i-preserved
 loop-i-preserved c = (
-      omega (arith, here c.args.file.now c.args.shape c.args.schedule.now c.args.closing c.args.state c.args.slots.now c.args.log.now c.requires c.loop-i.run c.loop-i.slots c.loop-i.log c.loop-i.i c.loop-i.invariant.3 c.loop-i-test.true),
-      omega (arith, c.step_slots-stepped.auto.slots, c.loop-i.invariant.1),
-      c.loop-i.invariant.2,
-      more c.args.file.now c.args.shape c.args.schedule.now c.args.closing c.args.state c.args.slots.now c.args.log.now c.requires c.loop-i.run c.loop-i.slots c.loop-i.log c.loop-i.i c.loop-i.invariant.3 c.loop-i-test.true _ _ _
-          (way_ends (sizes_in c.args.shape) c.requires.fit c.args.closing (calls_of c.args.file.now c.args.shape) (calls_are c.args.file.now c.args.shape c.args.schedule.now c.args.closing c.args.state c.args.slots.now c.args.log.now c.requires c.loop-i.run c.loop-i.slots c.loop-i.log c.loop-i.i c.loop-i.invariant.3 c.loop-i-test.true)
-          c.loop-i.run c.loop-i.slots c.loop-i.log c.loop-i.invariant.3.0.sound (get_or c.args.schedule.now c.loop-i.i 0) (below_P c.args.file.now c.args.shape c.args.schedule.now c.args.closing c.args.state c.args.slots.now c.args.log.now c.requires c.loop-i.run c.loop-i.slots c.loop-i.log c.loop-i.i c.loop-i.invariant.3 c.loop-i-test.true)
-          (process_in c.ready-of.result) c.ready-of.ensures
-          (sym c.is_idle.ensures ∙ c.if-is_idle.false) _ c.queue_of-q.ensures c.step_slots-stepped.result _ c.step_slots-stepped.ensures
-          c.loop-i.invariant.3.0.becomes.whole c.process_after-then.result c.process_after-then.ensures
-          c.tell-told.result _ c.tell-told.ensures),
-    )
+  omega (arith, here c.args.file.now c.args.shape c.args.schedule.now c.args.closing c.args.state c.args.slots.now c.args.log.now c.requires c.loop-i.run c.loop-i.slots c.loop-i.log c.loop-i.i c.loop-i.invariant.3 c.loop-i-test.true),
+  omega (arith, c.step_slots-stepped.auto.slots, c.loop-i.invariant.1),
+  c.loop-i.invariant.2,
+  more c.args.file.now c.args.shape c.args.schedule.now c.args.closing c.args.state c.args.slots.now c.args.log.now c.requires c.loop-i.run c.loop-i.slots c.loop-i.log c.loop-i.i c.loop-i.invariant.3 c.loop-i-test.true _ _ _
+      (way_ends (sizes_in c.args.shape) c.requires.fit c.args.closing (calls_of c.args.file.now c.args.shape) (calls_are c.args.file.now c.args.shape c.args.schedule.now c.args.closing c.args.state c.args.slots.now c.args.log.now c.requires c.loop-i.run c.loop-i.slots c.loop-i.log c.loop-i.i c.loop-i.invariant.3 c.loop-i-test.true)
+      c.loop-i.run c.loop-i.slots c.loop-i.log c.loop-i.invariant.3.0.sound (get_or c.args.schedule.now c.loop-i.i 0) (below_P c.args.file.now c.args.shape c.args.schedule.now c.args.closing c.args.state c.args.slots.now c.args.log.now c.requires c.loop-i.run c.loop-i.slots c.loop-i.log c.loop-i.i c.loop-i.invariant.3 c.loop-i-test.true)
+      (process_in c.ready-of.result) c.ready-of.ensures
+      (sym c.is_idle.ensures ∙ c.if-is_idle.false) _ c.queue_of-q.ensures c.step_slots-stepped.result _ c.step_slots-stepped.ensures
+      c.loop-i.invariant.3.0.becomes.whole c.process_after-then.result c.process_after-then.ensures
+      c.tell-told.result _ c.tell-told.ensures),
+)
 
 pub returns : goal.returns
 returns c =

@@ -5,17 +5,17 @@ use native.Mathlib.Omega.{arith}
 use lib.ListN.{take, drop}
 use Rattle.word.specs.declared.Word.{Word}
 use Rattle.runs.specs.Run.{table_row}
-use Rattle.steps.specs.Packed.{unpacked}
 use Rattle.bench.specs.Inner.Layout.{slots_in}
 use Rattle.bench.proofs.TableLaws.{none_filled, row_filled, all_filled, part_slots, part_small}
 use Rattle.bench.proofs.table.fill.Invariants.{word_in}
 use Rattle.bench.proofs.table.fill.Goals as goal
 
 pub loop-q-init : goal.loop-q-init
-loop-q-init c = let a = c.args in (omega arith, none_filled (word_in a.words) (slots_in a.size a.slots.now))
+loop-q-init c =
+    let a = c.args in (omega arith, none_filled (word_in a.words) (slots_in a.size a.slots.now))
 
 pub loop-q-preserved : goal.loop-q-preserved
-loop-q-preserved c = 
+loop-q-preserved c =
     let below : c.loop-q.q < 8 = omega (arith, c.loop-q-test.true, c.requires.2) in
     let a = c.args in
     let l = c.loop-q in
@@ -29,7 +29,8 @@ loop-q-preserved c =
     (omega (arith, c.loop-q-test.true), rw c.put_row.ensures (filled (omega (arith, below)) (omega arith)))
 
 pub returns : goal.returns
-returns c = let a = c.args in
+returns c =
+    let a = c.args in
     let l = c.loop-q in
     let e : l.q ≡ a.processes = omega (arith, l.invariant.0, c.loop-q-test.false) in
     all_filled (word_in a.words) (slots_in a.size a.slots.now) a.processes l.q l.table e l.invariant.1

@@ -51,7 +51,8 @@ module _ (c : Told) (u : c.due.result < 256) where
       (call_early (fun r) a.n (keys_of r) a.count p (at c) next-below))
 
 pub loop-j-init : goal.loop-j-init
-loop-j-init c = let a = c.args in (
+loop-j-init c =
+    let a = c.args in (
       search rules,
       search rules,
       first_start (breaks5 (entry_at a.log.now) a.n) a.n,
@@ -60,7 +61,7 @@ loop-j-init c = let a = c.args in (
     )
 
 pub loop-j-preserved-then-not-top_nil : goal.loop-j-preserved-then-not-top_nil
-loop-j-preserved-then-not-top_nil c = 
+loop-j-preserved-then-not-top_nil c =
     let fun : ℕ → Entry = entry_at c.args.log.now in
     let keys_of : List ℕ = c.args.keys.now in
     let got : Entry = c.entry-nil.result in
@@ -77,7 +78,7 @@ loop-j-preserved-then-not-top_nil c =
     )
 
 pub pass-requires : goal.pass-requires
-pass-requires c = 
+pass-requires c =
     let read : Read = c in
     let at : ℕ = (loop-at read).loop.k in
     let u = c.if-next-lt256.true in
@@ -85,7 +86,7 @@ pass-requires c =
     (u, omega (arith, (next-is c u).1, p.0.ordered.index at (next-below c u), p.1), next-passable c u)
 
 pub loop-j-preserved-then-next-lt256 : goal.loop-j-preserved-then-next-lt256
-loop-j-preserved-then-next-lt256 c = 
+loop-j-preserved-then-next-lt256 c =
     let fun : ℕ → Entry = entry_at c.args.log.now in
     let keys_of : List ℕ = c.args.keys.now in
     let got : Entry = c.entry-nil.result in
@@ -105,7 +106,7 @@ loop-j-preserved-then-next-lt256 c =
     )
 
 pub returns-then-uncaused : goal.returns-then-uncaused
-returns-then-uncaused c = 
+returns-then-uncaused c =
     let fun : ℕ → Entry = entry_at c.args.log.now in
     let keys_of : List ℕ = c.args.keys.now in
     let got : Entry = c.entry-nil.result in
@@ -131,7 +132,7 @@ returns-then-uncaused c =
     first_found (breaks5 (fun r) (start r).args.n) l.j (start r).args.n (below r) (sym broken ∙ c.if-uncaused.true) ∙ l.inv.2
 
 pub loop-j-preserved : goal.loop-j-preserved
-loop-j-preserved c = 
+loop-j-preserved c =
     let fun : ℕ → Entry = entry_at c.args.log.now in
     let keys_of : List ℕ = c.args.keys.now in
     let got : Entry = c.entry-nil.result in

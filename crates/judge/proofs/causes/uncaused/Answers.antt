@@ -10,7 +10,8 @@ use Rattle.judge.specs.Inner.Causes.{took_at, other_took}
 use Rattle.judge.proofs.causes.uncaused.Goals as goal
 
 pub loop-p-preserved : goal.loop-p-preserved
-loop-p-preserved c = let a = c.args in
+loop-p-preserved c =
+    let a = c.args in
     let e = a.nil in
     let l = c.loop-p in (
       search rules,
@@ -18,7 +19,8 @@ loop-p-preserved c = let a = c.args in
     )
 
 pub returns : goal.returns
-returns c = let a = c.args in
+returns c =
+    let a = c.args in
     let e = a.nil in
     let l = c.loop-p in
     let shelf = get_or a.shelves.now e.queue 0 in

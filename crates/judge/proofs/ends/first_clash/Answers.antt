@@ -18,7 +18,7 @@ use Rattle.judge.proofs.EndLaws.{Ends, ends_next, clash_is}
 use Rattle.judge.proofs.ends.first_clash.Goals as goal
 
 pub returns-then-end-last : goal.returns-then-end-last
-returns-then-end-last c = 
+returns-then-end-last c =
     let bytes : List ℕ = c.args.log.now in
     let at : ℕ = c.loop-i.i in
     let got : Entry = c.entry-e.result in
@@ -33,7 +33,7 @@ returns-then-end-last c =
     (sym clashes ∙ c.if-end-last.true) ∙ l.invariant.1
 
 pub loop-i-preserved : goal.loop-i-preserved
-loop-i-preserved c = 
+loop-i-preserved c =
     let bytes : List ℕ = c.args.log.now in
     let at : ℕ = c.loop-i.i in
     let got : Entry = c.entry-e.result in

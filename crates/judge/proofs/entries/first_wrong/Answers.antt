@@ -8,13 +8,15 @@ use Rattle.rules.specs.Rules.{keeps1, breaks1}
 use Rattle.judge.proofs.entries.first_wrong.Goals as goal
 
 pub returns-then-not-right : goal.returns-then-not-right
-returns-then-not-right c = let a = c.args in
+returns-then-not-right c =
+    let a = c.args in
     let l = c.loop-i in
     let e = ap not (sym (c.keeps_fields-right.ensures ∙ ap (keeps1 a.p) c.entry-e.ensures)) ∙ c.if-not-right.true in
     first_found (breaks1 (entry_at a.log.now) a.p) l.i a.n c.loop-i-test.true e ∙ l.invariant.1
 
 pub loop-i-preserved : goal.loop-i-preserved
-loop-i-preserved c = let a = c.args in
+loop-i-preserved c =
+    let a = c.args in
     let l = c.loop-i in
     let e = ap not (sym (c.keeps_fields-right.ensures ∙ ap (keeps1 a.p) c.entry-e.ensures)) ∙ c.if-not-right.false in
     (search rules, first_next (breaks1 (entry_at a.log.now) a.p) l.i a.n c.loop-i-test.true e ∙ l.invariant.1)

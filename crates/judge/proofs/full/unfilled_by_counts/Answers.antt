@@ -14,7 +14,7 @@ use Rattle.judge.proofs.FullLaws.{Told, told}
 use Rattle.judge.proofs.full.unfilled_by_counts.Goals as goal
 
 pub returns-then-full-there : goal.returns-then-full-there
-returns-then-full-there c = 
+returns-then-full-there c =
     let fun : ℕ → Entry = entry_at c.args.log.now in
     let below : c.loop.j < c.args.n = c.loop-j-test.true in
     let got : Entry = c.entry-e.result in
@@ -30,7 +30,7 @@ returns-then-full-there c =
     first_found (breaks6 fun c.args.slots) l.j c.args.n below (sym broken ∙ c.if-full-there.true) ∙ l.inv.1
 
 pub counts_after-requires : goal.counts_after-requires
-counts_after-requires c = 
+counts_after-requires c =
     let fun : ℕ → Entry = entry_at c.args.log.now in
     let below : c.loop.j < c.args.n = c.loop-j-test.true in
     let got : Entry = c.entry-e.result in
@@ -42,7 +42,7 @@ counts_after-requires c =
     omega (arith, told_of.low)
 
 pub loop-j-preserved : goal.loop-j-preserved
-loop-j-preserved c = 
+loop-j-preserved c =
     let fun : ℕ → Entry = entry_at c.args.log.now in
     let below : c.loop.j < c.args.n = c.loop-j-test.true in
     let got : Entry = c.entry-e.result in

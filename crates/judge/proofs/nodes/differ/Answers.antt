@@ -16,7 +16,8 @@ pub loop-i-init : goal.loop-i-init
 loop-i-init c = (search rules, marked_start (entry_at c.args.log.now))
 
 pub loop-i-preserved-else-mark : goal.loop-i-preserved-else-mark
-loop-i-preserved-else-mark c = let f = entry_at c.args.log.now in
+loop-i-preserved-else-mark c =
+    let f = entry_at c.args.log.now in
     let l = c.loop-i in
     let is = c.entry-e.ensures in
     let told = c.mark.ensures in
@@ -31,7 +32,8 @@ loop-i-preserved-else-mark c = let f = entry_at c.args.log.now in
     )
 
 pub loop-i-preserved : goal.loop-i-preserved
-loop-i-preserved c = let f = entry_at c.args.log.now in
+loop-i-preserved c =
+    let f = entry_at c.args.log.now in
     let l = c.loop-i in
     let none = sym (ap (λ (e : Entry). same Pushed (what e)) c.entry-e.ensures) ∙ sym c.pushed.ensures ∙ c.if-pushed.false in
     (omega (arith, c.loop-i-test.true), marked_other f l.i l.marks l.invariant.1 none)

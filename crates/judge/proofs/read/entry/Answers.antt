@@ -9,7 +9,8 @@ use Rattle.judge.proofs.read.entry.Goals as goal
 
 pub returns : goal.returns
 unfolding entry_at
-returns c = let l = c.args.log.now in
+returns c =
+    let l = c.args.log.now in
     let at = 5 + 12 * c.args.i in
     let all : length (drop at l) ≤ length l - at = simp length-drop (omega arith) in
     c.first.ensures ∙ ap first_entry (take_all (length l - at) (drop at l) all)

@@ -15,12 +15,13 @@ use Rattle.judge.proofs.RowLaws.{replay_start, Told, told, wrong_is, added_low}
 use Rattle.judge.proofs.replay.first_unlawful.Goals as goal
 
 pub loop-k-init : goal.loop-k-init
-loop-k-init c = let a = c.args in
+loop-k-init c =
+    let a = c.args in
     let p = c.requires in
     (search rules, replay_start a.watch (entry_at a.log.now) a.n a.keys.now a.width a.nodes.now p.4 p.3.rows)
 
 pub lawful-requires : goal.lawful-requires
-lawful-requires c = 
+lawful-requires c =
     let fun : ℕ → Entry = entry_at c.args.log.now in
     let keys : List ℕ = c.args.keys.now in
     let at : ℕ = c.loop.k in
@@ -50,7 +51,7 @@ lawful-requires c =
     )
 
 pub returns-then-not-lawful : goal.returns-then-not-lawful
-returns-then-not-lawful c = 
+returns-then-not-lawful c =
     let fun : ℕ → Entry = entry_at c.args.log.now in
     let keys : List ℕ = c.args.keys.now in
     let at : ℕ = c.loop.k in
@@ -77,7 +78,7 @@ returns-then-not-lawful c =
     l.inv.1.fine
 
 pub bounds-nodes-row : goal.bounds-nodes-row
-bounds-nodes-row c = 
+bounds-nodes-row c =
     let fun : ℕ → Entry = entry_at c.args.log.now in
     let keys : List ℕ = c.args.keys.now in
     let at : ℕ = c.loop.k in
@@ -96,7 +97,7 @@ bounds-nodes-row c =
     let r = read in omega (arith, (told_of r).high, (loop-at r).loop.inv.1.nodes_long)
 
 pub loop-k-preserved : goal.loop-k-preserved
-loop-k-preserved c = 
+loop-k-preserved c =
     let fun : ℕ → Entry = entry_at c.args.log.now in
     let keys : List ℕ = c.args.keys.now in
     let at : ℕ = c.loop.k in
@@ -120,7 +121,8 @@ loop-k-preserved c =
     )
 
 pub returns : goal.returns
-returns c = let a = c.args in
+returns c =
+    let a = c.args in
     let p = c.requires in
     let l = c.loop-k in
     none_worst (entry_at a.log.now) a.n a.keys.now a.count p.1 (λ x u. l.invariant.1.fine x (omega (arith, c.loop-k-test.false)))

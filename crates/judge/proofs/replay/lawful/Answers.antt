@@ -6,7 +6,7 @@ use Rattle.judge.proofs.DequeLaws.{content_last, content_empty}
 use Rattle.judge.proofs.replay.lawful.Goals as goal
 
 pub returns-else-hi-lo : goal.returns-else-hi-lo
-returns-else-hi-lo c = 
+returns-else-hi-lo c =
     let nodes : List ℕ = c.args.nodes.now in
     let lo : ℕ = c.args.row + lo_of c.args.ends in
     let hi : ℕ = c.args.row + hi_of c.args.ends in
@@ -14,7 +14,7 @@ returns-else-hi-lo c =
     (content_last nodes lo hi c.args.e.node c.if-hi-lo.false c.requires.0)
 
 pub returns-in-BottomNil : goal.returns-in-BottomNil
-returns-in-BottomNil c = 
+returns-in-BottomNil c =
     let nodes : List ℕ = c.args.nodes.now in
     let lo : ℕ = c.args.row + lo_of c.args.ends in
     let hi : ℕ = c.args.row + hi_of c.args.ends in

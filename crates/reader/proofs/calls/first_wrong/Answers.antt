@@ -10,7 +10,8 @@ pub loop-k-init : goal.loop-k-init
 loop-k-init c = (search rules, refl, cleared c.args.file.now c.args.processes)
 
 pub returns-then-number-ne0 : goal.returns-then-number-ne0
-returns-then-number-ne0 c = let a = c.args in
+returns-then-number-ne0 c =
+    let a = c.args in
     let l = c.loop-k in
     let f = wrong_at a.file.now a.processes in
     let e = c.wrong_call-number.ensures.value in
