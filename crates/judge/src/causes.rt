@@ -7,8 +7,8 @@ ghost use Rattle.judge.specs.Inner.Order.{Whole};
 ghost use Rattle.judge.specs.Inner.Causes.{shelf_after, passed_by, Passable, uncaused_by, Clean};
 
 use crate::read::entry;
-use fields::{choose, took_after, top_nil};
 use call_log::{Entry, What};
+use fields::{choose, took_after, top_nil};
 
 // A shelf is this many times how many nodes its queue holds, plus the moment at which it was filled.
 const SHELVED: u32 = 65536;

@@ -8,8 +8,8 @@ ghost use Rattle.judge.specs.Inner.Order.{Fields, Whole, is_full};
 ghost use Rattle.judge.specs.Inner.Full.{counts_after};
 
 use crate::read::entry;
-use fields::{UPPER, full};
 use call_log::{Entry, What};
+use fields::{UPPER, full};
 
 // What a call makes of its queue's counts: 65,536 times the done pushes plus the nodes taken at the bottom.
 fn counts_after(e: Entry, counts: usize) -> usize

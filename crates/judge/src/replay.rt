@@ -10,8 +10,8 @@ ghost use Rattle.judge.specs.Inner.Order.{Fields, Ordered, Whole};
 ghost use Rattle.judge.specs.Inner.Replay.{Differ, new_in, held_in, Roomy};
 
 use crate::read::entry;
-use fields::{UPPER, choose, moved, pushed};
 use call_log::{Entry, What};
+use fields::{UPPER, choose, moved, pushed};
 
 // Whether a node is among the pushed ones, which lie from here. It looks at all of them, without a test to leave, so that many are compared at once.
 fn pushed_in(nodes: &[u16], from: usize, count: usize, node: u16) -> bool

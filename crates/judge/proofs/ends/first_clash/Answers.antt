@@ -24,8 +24,8 @@ returns-then-end-last c =
     let got : Entry = c.entry-e.result in
     let is : got ≡ entry_at bytes at = c.entry-e.ensures in
     let kept : Rule1 8 (entry_at bytes at) = c.requires.0 at c.loop-i-test.true in
-    let clashes : (ltb c.end c.loop-i.last || ltb c.start
-    (get_or c.loop-i.own c.process 0)) ≡ breaks2 (entry_at bytes) at = let l = c.loop-i in
+    let clashes : (ltb got.end c.loop-i.last || ltb got.start
+    (get_or c.loop-i.own got.process 0)) ≡ breaks2 (entry_at bytes) at = let l = c.loop-i in
     ap (λ (e : Entry). ltb e.end l.last || ltb e.start (get_or l.own e.process 0)) is
     ∙ clash_is (entry_at bytes) l.i l.last l.own l.invariant.2 kept.process in
     let l = c.loop-i in
@@ -39,16 +39,16 @@ loop-i-preserved c =
     let got : Entry = c.entry-e.result in
     let is : got ≡ entry_at bytes at = c.entry-e.ensures in
     let kept : Rule1 8 (entry_at bytes at) = c.requires.0 at c.loop-i-test.true in
-    let clashes : (ltb c.end c.loop-i.last || ltb c.start
-    (get_or c.loop-i.own c.process 0)) ≡ breaks2 (entry_at bytes) at = let l = c.loop-i in
+    let clashes : (ltb got.end c.loop-i.last || ltb got.start
+    (get_or c.loop-i.own got.process 0)) ≡ breaks2 (entry_at bytes) at = let l = c.loop-i in
     ap (λ (e : Entry). ltb e.end l.last || ltb e.start (get_or l.own e.process 0)) is
     ∙ clash_is (entry_at bytes) l.i l.last l.own l.invariant.2 kept.process in
     let l = c.loop-i in
     let f = entry_at bytes in
-    let n0 : ltb c.end l.last ≡ false = or_0 (ltb c.end l.last) (ltb c.start (get_or l.own c.process 0))
+    let n0 : ltb got.end l.last ≡ false = or_0 (ltb got.end l.last) (ltb got.start (get_or l.own got.process 0))
     c.if-end-last.false in
-    let n1 : ltb c.start (get_or l.own c.process 0) ≡ false = or_1 (ltb c.end l.last)
-    (ltb c.start (get_or l.own c.process 0)) c.if-end-last.false in
+    let n1 : ltb got.start (get_or l.own got.process 0) ≡ false = or_1 (ltb got.end l.last)
+    (ltb got.start (get_or l.own got.process 0)) c.if-end-last.false in
     let e0 : ltb (f l.i).end l.last ≡ false = sym (ap (λ (e : Entry). ltb e.end l.last) is) ∙ n0 in
     let e1 : ltb (f l.i).start (get_or l.own (f l.i).process 0) ≡ false = sym
     (ap (λ (e : Entry). ltb e.start (get_or l.own e.process 0)) is) ∙ n1 in (

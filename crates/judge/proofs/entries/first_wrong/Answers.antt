@@ -11,12 +11,14 @@ pub returns-then-not-right : goal.returns-then-not-right
 returns-then-not-right c =
     let a = c.args in
     let l = c.loop-i in
-    let e = ap not (sym (c.keeps_fields-right.ensures ∙ ap (keeps1 a.p) c.entry-e.ensures)) ∙ c.if-not-right.true in
+    let right = c.keeps_fields-right.ensures ∙ ap (keeps1 a.p) c.entry-e.ensures in
+    let e = ap not (sym right ∙ c.if-not-right.true) in
     first_found (breaks1 (entry_at a.log.now) a.p) l.i a.n c.loop-i-test.true e ∙ l.invariant.1
 
 pub loop-i-preserved : goal.loop-i-preserved
 loop-i-preserved c =
     let a = c.args in
     let l = c.loop-i in
-    let e = ap not (sym (c.keeps_fields-right.ensures ∙ ap (keeps1 a.p) c.entry-e.ensures)) ∙ c.if-not-right.false in
+    let right = c.keeps_fields-right.ensures ∙ ap (keeps1 a.p) c.entry-e.ensures in
+    let e = ap not (sym right ∙ c.if-not-right.false) in
     (search rules, first_next (breaks1 (entry_at a.log.now) a.p) l.i a.n c.loop-i-test.true e ∙ l.invariant.1)

@@ -24,7 +24,7 @@ loop-i-preserved-else-mark c =
     let push = sym (ap (λ (e : Entry). same Pushed (what e)) is) ∙ sym c.pushed.ensures
     ∙ c.if-pushed.true in
     let new = ap (λ (e : Entry). marked l.marks e.node) (sym is) ∙ sym told.0 ∙ c.if-mark.false in
-    let known = c.shared_slice_known-1.given in
+    let known = c.type_inv.log in
     let below = (entry_fits c.args.log.now (λ j. (known j).fits) l.i).pairs.0 in (
       omega (arith, c.loop-i-test.true),
       subst (Marked f (l.i + 1)) (sym (told.1 ∙ ap (λ (e : Entry). with_mark l.marks e.node) is))

@@ -1,21 +1,29 @@
 -- `judge::replay::lawful` meets its contract. Each arm by what stands at that end of a part of an array.
+use mathlib.Core.Path.{◌≡◌, sym, ap, ◌∙◌}
+use mathlib.Core.Bool.{Bool}
 use mathlib.Core.List.{List}
 use Prim.Native.Nat.{ℕ, ◌+◌}
+use Rattle.call_log.specs.declared.What.{What}
+use Rattle.call_log.specs.declared.What.TheVariants.{BottomNode, BottomNil}
+use Rattle.rules.specs.Rules.{lawful}
 use Rattle.fields.specs.Inner.Ends.{lo_of, hi_of}
+use Rattle.judge.specs.Inner.Replay.{held_in}
 use Rattle.judge.proofs.DequeLaws.{content_last, content_empty}
 use Rattle.judge.proofs.replay.lawful.Goals as goal
 
+-- what holds of the kind of call that the code was told holds of the call's own
+of_kind : (new : Bool) (node : ℕ) (held : List ℕ) (x w did : What) (r : Bool) → did ≡ x → did ≡ w → r ≡ lawful new x node held
+    → r ≡ lawful new w node held
+of_kind new node held x w did r is told h = h ∙ ap (λ (y : What). lawful new y node held) (sym is ∙ told)
+
 pub returns-else-hi-lo : goal.returns-else-hi-lo
 returns-else-hi-lo c =
-    let nodes : List ℕ = c.args.nodes.now in
-    let lo : ℕ = c.args.row + lo_of c.args.ends in
-    let hi : ℕ = c.args.row + hi_of c.args.ends in
-    right c _ _ c.enum_told-in-BottomNode-1.given.1
-    (content_last nodes lo hi c.args.e.node c.if-hi-lo.false c.requires.0)
+    let a = c.args in
+    of_kind _ a.e.node (held_in a.nodes.now a.row a.ends) BottomNode _ _ _ c.in-BottomNode.is c.what_of-did.ensures
+    (content_last a.nodes.now (a.row + lo_of a.ends) (a.row + hi_of a.ends) a.e.node c.if-hi-lo.false c.requires.0)
 
 pub returns-in-BottomNil : goal.returns-in-BottomNil
 returns-in-BottomNil c =
-    let nodes : List ℕ = c.args.nodes.now in
-    let lo : ℕ = c.args.row + lo_of c.args.ends in
-    let hi : ℕ = c.args.row + hi_of c.args.ends in
-    right c _ _ c.enum_told-in-BottomNil-1.given.1 (content_empty nodes lo hi c.requires.0)
+    let a = c.args in
+    of_kind _ a.e.node (held_in a.nodes.now a.row a.ends) BottomNil _ _ _ c.in-BottomNil.is c.what_of-did.ensures
+    (content_empty a.nodes.now (a.row + lo_of a.ends) (a.row + hi_of a.ends) c.requires.0)
