@@ -31,9 +31,9 @@ struct Turn {
     word: Word,
 }
 
-fn get() -> Got {
+fn get(rt: &HostRuntime) -> Got {
     let mut one = [0u8; 1];
-    let got = stdio::read(&mut one);
+    let got = stdio::read(rt, &mut rt.stdin(), &mut one);
     Got {
         failed: got.failed,
         more: got.length != 0,
@@ -52,11 +52,11 @@ fn put(buffer: &mut [u8], n: usize, byte: u8) -> usize {
 
 // Reads a line and no byte of the next, and answers its length without the line end, which the last line may lack. What was read of a line
 // before a read that failed is no line.
-fn read_line(buffer: &mut [u8]) -> usize {
+fn read_line(rt: &HostRuntime, buffer: &mut [u8]) -> usize {
     let mut n: usize = 0;
     let mut turns = u64::MAX; // a proved loop has to end, and nothing says that a line does
     while turns > 0 {
-        let got = get();
+        let got = get(rt);
         if got.failed {
             return END;
         }
@@ -73,19 +73,19 @@ fn read_line(buffer: &mut [u8]) -> usize {
 }
 
 // Does the step of a stage and prints what came of it.
-fn step(width: u8, size: u8, word: Word, slots: &mut [u16], stage: Stage) -> Word {
+fn step(rt: &impl Print, width: u8, size: u8, word: Word, slots: &mut [u16], stage: Stage) -> Word {
     let after = desk::step_lending(width, size, word, slots, stage);
     let word = after.word;
     let answer = after.answer;
-    answers::queue(word, slots);
-    answers::answer(answer);
+    answers::queue(rt, word, slots);
+    answers::answer(rt, answer);
     word
 }
 
 // Answers a stage line.
-fn answer_line(width: u8, size: u8, word: Word, slots: &mut [u16]) -> Turn {
+fn answer_line(rt: &HostRuntime, width: u8, size: u8, word: Word, slots: &mut [u16]) -> Turn {
     let mut buffer = [0u8; LINE_BYTES];
-    let n = read_line(&mut buffer);
+    let n = read_line(rt, &mut buffer);
     if n == END {
         return Turn {
             on: false,
@@ -93,7 +93,7 @@ fn answer_line(width: u8, size: u8, word: Word, slots: &mut [u16]) -> Turn {
         };
     }
     if LINE_BYTES < n {
-        answers::too_long();
+        answers::too_long(rt);
         return Turn {
             on: true,
             word: word,
@@ -102,14 +102,14 @@ fn answer_line(width: u8, size: u8, word: Word, slots: &mut [u16]) -> Turn {
     let line = lines::read_stage(&buffer[..n]);
     match line {
         Line::Stage(stage) => {
-            let after = step(width, size, word, slots, stage);
+            let after = step(rt, width, size, word, slots, stage);
             Turn {
                 on: true,
                 word: after,
             }
         }
         Line::Wrong(why) => {
-            answers::not_run(why);
+            answers::not_run(rt, why);
             Turn {
                 on: true,
                 word: word,
@@ -119,7 +119,7 @@ fn answer_line(width: u8, size: u8, word: Word, slots: &mut [u16]) -> Turn {
 }
 
 // Steps a queue of C slots, all 0 at first, a line at a time.
-fn steps(width: u8, size: u8)
+fn steps(rt: &HostRuntime, width: u8, size: u8)
     requires { size ≤ 64 }
 {
     let mut all = [0u16; 64];
@@ -130,11 +130,11 @@ fn steps(width: u8, size: u8)
         top: 0,
         tag: 0,
     };
-    answers::queue(word, slots);
-    answers::end_line();
+    answers::queue(rt, word, slots);
+    answers::end_line(rt);
     let mut turns = u64::MAX;
     while turns > 0 {
-        let after = answer_line(width, size, word, slots);
+        let after = answer_line(rt, width, size, word, slots);
         if !after.on {
             return;
         }
@@ -144,33 +144,33 @@ fn steps(width: u8, size: u8)
 }
 
 // Answers a line of W and C, and after a right one all that follow; answers whether to read another such line.
-fn opening() -> bool {
+fn opening(rt: &HostRuntime) -> bool {
     let mut buffer = [0u8; LINE_BYTES];
-    let n = read_line(&mut buffer);
+    let n = read_line(rt, &mut buffer);
     if n == END {
         return false;
     }
     if LINE_BYTES < n {
-        answers::too_long();
+        answers::too_long(rt);
         return true;
     }
     let sizes = lines::read_sizes(&buffer[..n]);
     match sizes {
         Sizes::Good { width, size } => {
-            steps(width, size);
+            steps(rt, width, size);
             false
         }
         Sizes::Wrong(why) => {
-            answers::not_opened(why);
+            answers::not_opened(rt, why);
             true
         }
     }
 }
 
 // The desk until the end of standard input.
-fn main() {
+fn main(rt: HostRuntime) {
     let mut turns = u64::MAX;
-    while turns > 0 && opening() {
+    while turns > 0 && opening(&rt) {
         turns -= 1;
     }
 }

@@ -2,7 +2,7 @@
 // the nodes left in each queue in place of the log; with `judge` it judges the log on standard input.
 #![tactic(auto)]
 
-use libc::{STDERR_FILENO, STDOUT_FILENO};
+use std::env::{Env, FillError};
 
 mod print; // lines of numbers
 
@@ -17,72 +17,76 @@ const FILE_BYTES: usize = 4881;
 const JUDGED_BYTES: usize = call_log::LONGEST_LOG + 1;
 
 // The log, or what it leaves in each queue, its counts and the judge's number.
-fn print_run(log: &[u8], entries: u16, steps: u16, gone: u16, left: bool) {
+fn print_run(rt: &impl Print, log: &[u8], entries: u16, steps: u16, gone: u16, left: bool) {
     let verdict = judge::judge(log);
     if left {
-        print::left(log);
-        print::unless_promised(gone);
+        print::left(rt, log);
+        print::unless_promised(rt, gone);
     } else {
-        print::entries(log, entries);
+        print::entries(rt, log, entries);
     }
-    print::counts(entries, steps, gone, verdict.number);
+    print::counts(rt, entries, steps, gone, verdict.number);
 }
 
-fn run_file(file: &[u8], left: bool) {
+fn run_file(rt: &impl Print, file: &[u8], left: bool) {
     let mut buffer = [0u8; call_log::LONGEST_LOG];
     let mut report = [0u16; 4];
     let mut table = [0u16; bench::TABLE_SIZE];
     let log = bench::run(file, &mut buffer, &mut report, &mut table);
     if report[0] != 0 {
-        print::refused(report[0]);
+        print::refused(rt, report[0]);
         return;
     }
-    print_run(log, report[1], report[2], report[3], left);
+    print_run(rt, log, report[1], report[2], report[3], left);
 }
 
 // Runs the file on standard input.
-fn run(left: bool) {
+fn run(rt: &HostRuntime, left: bool) {
     let mut file = [0u8; FILE_BYTES];
-    let input = stdio::read(&mut file);
+    let input = stdio::read(rt, &mut rt.stdin(), &mut file);
     let n = input.length;
     if !input.failed {
-        run_file(&file[..n], left);
+        run_file(rt, &file[..n], left);
     }
 }
 
 // Judges the log on standard input.
-fn judge() {
+fn judge(rt: &HostRuntime) {
     let mut log = [0u8; JUDGED_BYTES];
-    let input = stdio::read(&mut log);
+    let input = stdio::read(rt, &mut rt.stdin(), &mut log);
     let n = input.length;
     if !input.failed {
         let verdict = judge::judge(&log[..n]);
-        print::verdict(verdict.number, verdict.entry);
+        print::verdict(rt, verdict.number, verdict.entry);
     }
 }
 
 // Does what one word asks.
-fn asked(word: &[u8]) {
-    if check::same(word, b"left") {
-        run(true);
-    } else if check::same(word, b"judge") {
-        judge();
-    } else if check::same(word, b"help") {
-        print::usage(STDOUT_FILENO);
-    } else {
-        print::usage(STDERR_FILENO);
+fn asked(rt: &HostRuntime, word: &[u8]) {
+    match word {
+        b"left" => run(rt, true),
+        b"judge" => judge(rt),
+        b"help" => print::usage(&rt.stdout()),
+        _ => print::usage(&rt.stderr()),
     }
 }
 
-fn main() {
+// Whether the command has a word i. Word 0 is its name.
+fn has_word(rt: &impl Env, i: usize) -> bool {
+    match rt.arg(i, &mut []) {
+        Err(FillError::NotPresent) => false,
+        _ => true,
+    }
+}
+
+fn main(rt: HostRuntime) {
     let mut word = [0u8; 8];
-    let n = os::arg(1, &mut word);
-    let words = os::arg_count();
-    if words <= 1 {
-        run(false);
-    } else if words == 2 {
-        asked(&word[..n]);
+    let n = rt.arg(1, &mut word).unwrap_or(0); // a longer word is none that is known
+    if !has_word(&rt, 1) {
+        run(&rt, false);
+    } else if !has_word(&rt, 2) {
+        asked(&rt, &word[..n]);
     } else {
-        print::usage(STDERR_FILENO);
+        print::usage(&rt.stderr());
     }
 }

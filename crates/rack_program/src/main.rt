@@ -12,9 +12,10 @@ const REPLY_BYTES: usize = 8;
 const MOST_FILES: usize = 1024;
 
 // Reply i: its number, and the four after it.
-fn print_reply(replies: &[u8], i: u16) {
+fn print_reply(rt: &impl Print, replies: &[u8], i: u16) {
     let at = REPLY_BYTES * (i as usize);
     line(
+        rt,
         base::byte_at(replies, at) as u16,
         &[
             base::number_at(replies, at + 1),
@@ -25,35 +26,35 @@ fn print_reply(replies: &[u8], i: u16) {
     );
 }
 
-fn print_replies(replies: &[u8], count: u16) {
+fn print_replies(rt: &impl Print, replies: &[u8], count: u16) {
     let mut i: u16 = 0;
     while i < count {
-        print_reply(replies, i);
+        print_reply(rt, replies, i);
         i = i + 1;
     }
 }
 
-fn run_rack(files: &[u8]) {
+fn run_rack(rt: &impl Print, files: &[u8]) {
     let mut log = [0u8; call_log::LONGEST_LOG];
     let mut replies = [0u8; REPLY_BYTES * MOST_FILES];
     let refused = rack::rack(files, &mut log, &mut replies);
     if refused != 0 {
-        last(b"refused ", refused as u16);
+        last(rt, b"refused ", refused as u16);
         return;
     }
-    print_replies(&replies, base::number_at(files, 0));
+    print_replies(rt, &replies, base::number_at(files, 0));
 }
 
-fn main() {
+fn main(rt: HostRuntime) {
     let mut files = [0u8; RACK_BYTES + 1];
-    let input = stdio::read(&mut files);
+    let input = stdio::read(&rt, &mut rt.stdin(), &mut files);
     let n = input.length;
     if input.failed {
         return;
     }
     if RACK_BYTES < n {
-        text(b"longer than 65536 bytes\n");
+        text(&rt, b"longer than 65536 bytes\n");
         return;
     }
-    run_rack(&files[..n]);
+    run_rack(&rt, &files[..n]);
 }

@@ -3,12 +3,17 @@
 // of the longest log where nothing is said, and `+4096` that many bytes 0. The stored output of `r` and `j` was written from document 01 by hand.
 #![tactic(auto)]
 
-use libc::STDIN_FILENO;
+ghost use Rattle.std.specs.Prelude.{◌+◌, ◌≤◌, length};
+
+use std::io::Read;
 
 mod show; // what is printed
 
 // The longest file of a case has a schedule of 4,097 steps, which is one too many.
 const FILE_BYTES: usize = 4106;
+
+// More than all cases have together.
+const TEXT_BYTES: usize = 65536;
 
 // Where the reading of a line stands: at its letter, at the blank after it, in its name, or in its bytes.
 const LETTER: u8 = 0;
@@ -94,7 +99,7 @@ fn number_ends(case: Case, file: &mut [u8; FILE_BYTES]) -> Case {
         put(file, case.length, base::low(case.value));
         more = 1;
     }
-    let length = std::num::wrapping_add_u16(case.length, more);
+    let length = case.length.wrapping_add(more);
     Case {
         length: length,
         sign: b' ',
@@ -104,20 +109,20 @@ fn number_ends(case: Case, file: &mut [u8; FILE_BYTES]) -> Case {
 }
 
 // Tries the case that a line said.
-fn tries(case: Case, file: &[u8]) {
-    let n = io::count(case.length as isize, file);
+fn tries(rt: &impl Print, case: Case, file: &[u8]) {
+    let n = (case.length as usize).min(file.len());
     if case.letter == b'r' {
-        show::run(&file[..n], case.room);
+        show::run(rt, &file[..n], case.room);
     } else if case.letter == b'j' {
-        show::judged(&file[..n]);
+        show::judged(rt, &file[..n]);
     } else {
-        show::read(&file[..n]);
+        show::read(rt, &file[..n]);
     }
-    show::text(b"\n");
+    show::text(rt, b"\n");
 }
 
 // A byte of a line that is not its end. The name is printed as it comes.
-fn line_goes_on(case: Case, file: &mut [u8; FILE_BYTES], c: u8) -> Case {
+fn line_goes_on(rt: &impl Print, case: Case, file: &mut [u8; FILE_BYTES], c: u8) -> Case {
     if case.stands == LETTER {
         return Case {
             stands: BLANK,
@@ -143,32 +148,55 @@ fn line_goes_on(case: Case, file: &mut [u8; FILE_BYTES], c: u8) -> Case {
             ..case
         };
     }
-    show::text(&[c]);
+    show::text(rt, &[c]);
     case
 }
 
-fn goes_on(case: Case, file: &mut [u8; FILE_BYTES], c: u8) -> Case {
+fn goes_on(rt: &impl Print, case: Case, file: &mut [u8; FILE_BYTES], c: u8) -> Case {
     if c != b'\n' {
-        return line_goes_on(case, file, c);
+        return line_goes_on(rt, case, file, c);
     }
     let whole = number_ends(case, file);
-    tries(whole, file);
+    tries(rt, whole, file);
     *file = [0; FILE_BYTES];
     fresh()
 }
 
-fn all(text: &[u8]) {
+fn all(rt: &impl Print, text: &[u8]) {
     let mut file = [0u8; FILE_BYTES];
     let mut case = fresh();
     let mut i: usize = 0;
     while i < text.len() {
-        case = goes_on(case, &mut file, text[i]);
+        case = goes_on(rt, case, &mut file, text[i]);
         i = i + 1;
     }
 }
 
-fn main() {
-    let mut text = io::large_buffer();
-    let n = io::read_full(STDIN_FILENO, &mut text);
-    all(&text[..n]);
+// One read, to the place n of the buffer and after it. No byte is the end of the input, or a read that failed.
+fn read_on<R: Read>(from: &mut R, buffer: &mut [u8], n: usize) -> usize
+    requires { n ≤ length buffer.old }
+    ensures { n + result ≤ length buffer.old }
+{
+    from.read(&mut buffer[n..]).unwrap_or(0)
+}
+
+// Reads until the buffer is full, the input ends or a read fails, and answers how many bytes it put at the start of the buffer.
+fn read_full<R: Read>(from: &mut R, buffer: &mut [u8]) -> usize
+    ensures { result ≤ length buffer.new }
+{
+    let mut n: usize = 0;
+    while n < buffer.len() {
+        let got = read_on(from, buffer, n);
+        if got == 0 {
+            break;
+        }
+        n = n + got;
+    }
+    n
+}
+
+fn main(rt: HostRuntime) {
+    let mut text = [0u8; TEXT_BYTES];
+    let n = read_full(&mut rt.stdin(), &mut text);
+    all(&rt, &text[..n]);
 }
