@@ -1,4 +1,4 @@
--- `inRange` as facts on numbers, and back: what proofs use in place of the tests.
+-- `in_range` as facts on numbers, and back: what proofs use in place of the tests.
 use mathlib.Core.Path.{◌≡◌, refl}
 use mathlib.Core.Bool.{Bool, true, ◌&&◌, and-eq-true_iff}
 use Prim.Native.Nat.{ℕ, ◌^◌, ◌≤◌, ◌<◌}

@@ -1,4 +1,4 @@
--- What it is to be in range, as facts on numbers: the rows of the table ask for them, and `inRange` tests them.
+-- What it is to be in range, as facts on numbers: the rows of the table ask for them, and `in_range` tests them.
 use Rattle.std.specs.Prelude.{◌≡◌, ℕ, ◌^◌, ◌≤◌, ◌<◌}
 use Rattle.word.specs.declared.Word.{Word}
 use Rattle.word.specs.declared.Stage.{Stage}
