@@ -1,6 +1,6 @@
 -- Document 01, "What the judge accepts": when entry j of a log breaks each rule. The log is f, from an entry's index to the entry, with n entries,
 -- P processes and C slots. A rule is asked only of logs that keep the earlier ones.
-use Rattle.base.specs.Words.{ℕ, zero, suc, ◌+◌, ◌-◌, ◌*◌, Bool, true, false, cond, not, ◌&&◌, ◌||◌, Bool·beq, ltb, leb, eqb, List, [], ◌∷◌, length}
+use Rattle.base.specs.Words.{ℕ, zero, suc, ◌+◌, ◌-◌, ◌*◌, Bool, true, false, cond, not, ◌&&◌, ◌||◌, bool_eq, ltb, leb, eqb, List, [], ◌∷◌, length}
 use Rattle.call_log.specs.{declared.Entry.Entry, declared.What.What}
 use Rattle.call_log.specs.declared.What.TheVariants.{Pushed, Full, BottomNode, BottomNil, TopNode, TopNil, TopLost}
 use Rattle.call_log.specs.Numbers.{push, bottom_pop, top_pop, nil, full, lost, most_result, no_moment, what, same, is_top_nil}
@@ -23,7 +23,7 @@ keeps1 P e =
     && (not (eqb e.result nil) || not (eqb e.kind push))
     && (not (eqb e.result lost) || eqb e.kind top_pop)
     -- node 0 exactly for NIL, which is 0, and 3 at T4;
-    && Bool·beq (eqb e.node 0) (eqb e.result nil || eqb e.result lost)
+    && bool_eq (eqb e.node 0) (eqb e.result nil || eqb e.result lost)
     -- start ≤ end ≤ 32,766.
     && leb e.start e.end && leb e.end last_end
 
