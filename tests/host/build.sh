@@ -1,7 +1,7 @@
 # For the scripts that build a program in C over the static library; they source it from the repository's root. The library is x86-64:
 # on another processor a cross compiler and an emulator stand in.
 
-archive=target/staticlib/libscarpgoblet.a
+archive=crates/scarpgoblet/out/libscarpgoblet.a
 
 need() { # need COMMAND PACKAGE..: installs the packages where the command is missing
     command=$1
@@ -9,9 +9,9 @@ need() { # need COMMAND PACKAGE..: installs the packages where the command is mi
     command -v "$command" >/dev/null 2>&1 || { apt-get update -qq && apt-get install -y -qq "$@"; } >/dev/null
 }
 
-library() { # builds the archive where it is missing or older than the crates
-    if [ ! -f "$archive" ] || [ -n "$(find crates.txt crates -type f -newer "$archive")" ]; then
-        rt staticlib scarpgoblet
+library() { # builds the archive where it is missing or older than what it is proved and built of
+    if [ ! -f "$archive" ] || [ -n "$(find crates.txt crates/*/src crates/*/specs crates/*/proofs -newer "$archive")" ]; then
+        tools/prove scarpgoblet
     fi
 }
 
