@@ -1,5 +1,5 @@
-/* The bench and the judge, for a host program in C. Link with libscarpgoblet.a (x86-64): `rt staticlib scarpgoblet` makes it, in
- * target/staticlib/.
+/* The bench and the judge, for a host program in C. Link with libscarpgoblet.a (x86-64): `rt lib` in crates/scarpgoblet/ makes it, in
+ * crates/scarpgoblet/out/.
  *
  * All five functions answer for any bytes and any lengths, and keep nothing between calls. No pointer may be null, not even where
  * its length is 0. */
