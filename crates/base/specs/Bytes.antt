@@ -1,5 +1,5 @@
 -- Bytes, as both files have them: what stands at a place, and numbers of two bytes, high byte first.
-use Rattle.base.specs.Words.{ℕ, ◌+◌, ◌*◌, ◌/◌, ◌%◌, ◌<◌, cond, leb, List, [], ◌∷◌, ◌++◌, length, get_or, take, drop}
+use Rattle.std.specs.Prelude.{ℕ, ◌+◌, ◌*◌, ◌/◌, ◌%◌, ◌<◌, cond, leb, List, [], ◌∷◌, ◌++◌, length, get_or, take, drop}
 
 -- a number that fits one byte, and two
 abbrev pub Byte : ℕ → Type 0

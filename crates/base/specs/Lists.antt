@@ -1,5 +1,5 @@
 -- Lists: the first values of a function, what stands in a list, and what holds of all elements and of all pairs.
-use Rattle.base.specs.Words.{ℕ, zero, suc, List, [], ◌∷◌, ◌⊎◌, ◌≡◌}
+use Rattle.std.specs.Prelude.{ℕ, zero, suc, List, [], ◌∷◌, ◌⊎◌, ◌≡◌}
 
 -- the first n values of f; by the `let` a value is computed where it is read, and not with the list
 abbrev pub list_of : {A : Type 0} → ℕ → (ℕ → A) → List A

@@ -1,5 +1,5 @@
 -- Numbers and buffers, computed: a number, and one whose second byte is not there; the bytes of a number; bytes put into a buffer, with room and without.
-use Rattle.base.specs.Words.{[], ◌∷◌, ◌≡◌, refl}
+use Rattle.std.specs.Prelude.{[], ◌∷◌, ◌≡◌, refl}
 use Rattle.base.specs.Bytes.{number_at, pair, put_at}
 
 worked : (number_at (9 ∷ 1 ∷ 2 ∷ []) 1 ≡ 258) × (number_at (9 ∷ 1 ∷ []) 1 ≡ 256) × (pair 258 ≡ 1 ∷ 2 ∷ [])

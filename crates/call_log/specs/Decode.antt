@@ -1,5 +1,5 @@
 -- What stands in a log's bytes. Bytes past the end read as 0, so that every list of bytes has entries.
-use Rattle.base.specs.Words.{ℕ, ◌+◌, ◌*◌, List, [], drop}
+use Rattle.std.specs.Prelude.{ℕ, ◌+◌, ◌*◌, List, [], drop}
 use Rattle.base.specs.Bytes.{byte_at, number_at}
 use Rattle.call_log.specs.declared.Entry.{Entry}
 

@@ -1,5 +1,5 @@
 -- A log, and its bytes in document 01's order: section 1, the number of entries, the entries.
-use Rattle.base.specs.Words.{ℕ, ◌≤◌, List, [], ◌∷◌, ◌++◌, length}
+use Rattle.std.specs.Prelude.{ℕ, ◌≤◌, List, [], ◌∷◌, ◌++◌, length}
 use Rattle.base.specs.{Bytes.Byte, Bytes.Two, Bytes.pair, Lists.All}
 use Rattle.call_log.specs.declared.Entry.{Entry}
 

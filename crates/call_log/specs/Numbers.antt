@@ -1,5 +1,5 @@
 -- The log's numbers as document 01, "The log", gives them, and document 02 in C-15, each once, and which calls have a moment.
-use Rattle.base.specs.Words.{ℕ, Bool, cond, not, ◌&&◌, ◌||◌, eqb}
+use Rattle.std.specs.Prelude.{ℕ, Bool, cond, not, ◌&&◌, ◌||◌, eqb}
 use Rattle.call_log.specs.{declared.Entry.Entry, declared.What.What}
 use Rattle.call_log.specs.declared.What.TheVariants.{Pushed, Full, BottomNode, BottomNil, TopNode, TopNil, TopLost}
 

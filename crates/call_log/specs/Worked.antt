@@ -1,5 +1,5 @@
 -- The log's numbers, and the bytes of K1's last entry, computed.
-use Rattle.base.specs.Words.{ℕ, true, false, List, [], ◌∷◌, map, ◌≡◌, refl}
+use Rattle.std.specs.Prelude.{ℕ, true, false, List, [], ◌∷◌, map, ◌≡◌, refl}
 use Rattle.call_log.specs.Decode.{first_entry, entry_at, no_entry, log_length}
 use Rattle.call_log.specs.{Encode.head_bytes, Encode.entry_bytes, declared.Entry.Entry}
 use Rattle.call_log.specs.Numbers.{kind_of, result_of, bears_moment, what_of, same, is_top_nil}

@@ -1,5 +1,5 @@
 -- The desk: what it gives back for a stage lent with a word and slots, and the word and the slots after it. The step is the table's.
-use Rattle.base.specs.Words.{ℕ, cond, List, [], length, ◌≡◌}
+use Rattle.std.specs.Prelude.{ℕ, cond, List, [], length, ◌≡◌}
 use Rattle.steps.specs.{Step.stored, Step.stepped_on, Step.stage_after, Step.result_of as next_result, declared.Next.Next, declared.Next.TheVariants.Going}
 use Rattle.word.specs.{Range.in_range, declared.Word.Word, declared.Stage.Stage}
 use Rattle.desk.specs.{declared.Answer.Answer, declared.Answer.TheVariants.Stepped, declared.Answer.TheVariants.Refused}

@@ -1,5 +1,5 @@
 -- Document 01's list of what the desk refuses, word by word.
-use Rattle.base.specs.Words.{ℕ, ◌^◌, ◌<◌, ◌≤◌, List, [], ◌∷◌, ◌≡◌}
+use Rattle.std.specs.Prelude.{ℕ, ◌^◌, ◌<◌, ◌≤◌, List, [], ◌∷◌, ◌≡◌}
 use Rattle.word.specs.{Stages.row_number, declared.Word.Word, declared.Stage.Stage}
 use Rattle.word.specs.declared.Stage.TheVariants.{Idle, P1, P2, P3, T1, T2, T3, T4, B1, B2, B3, B4, B5, B6, B7}
 

@@ -1,5 +1,5 @@
 -- Steps at the desk, computed: K1 by hand, K4's tag that goes round and K5's that does not, tags of 16 bits, and each refusal of document 01's list.
-use Rattle.base.specs.Words.{ℕ, List, [], ◌∷◌, map, replicate, ◌≡◌, refl}
+use Rattle.std.specs.Prelude.{ℕ, List, [], ◌∷◌, map, replicate, ◌≡◌, refl}
 use Rattle.desk.specs.{declared.Answer.Answer, declared.Answer.TheVariants.Stepped, declared.Answer.TheVariants.Refused}
 use Rattle.desk.specs.Desk.{number_of, stage_of, result_of, desk_answer, desk_word, desk_slots}
 use Rattle.steps.specs.{declared.Next.Next, declared.Next.TheVariants.Going, declared.Next.TheVariants.Done, declared.Next.TheVariants.Node}

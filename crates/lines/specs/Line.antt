@@ -1,5 +1,5 @@
 -- What a line typed at the desk says.
-use Rattle.base.specs.Words.{ℕ, Bool, cond, ltb, eqb, List, [], ◌∷◌}
+use Rattle.std.specs.Prelude.{ℕ, Bool, cond, ltb, eqb, List, [], ◌∷◌}
 use Prim.Native.Char.{code}
 use Prim.Native.String.{String, [] as empty, ◌∷◌ as ◌then◌}
 use Rattle.word.specs.declared.Stage.{Stage}

@@ -1,5 +1,5 @@
 -- Lines, each with what it says, computed on the definitions that the readers are proved to follow.
-use Rattle.base.specs.Words.{List, [], ◌∷◌, map, replicate, ◌≡◌, refl}
+use Rattle.std.specs.Prelude.{List, [], ◌∷◌, map, replicate, ◌≡◌, refl}
 use Prim.Native.String.{String}
 use Rattle.word.specs.declared.Stage.{Stage}
 use Rattle.word.specs.declared.Stage.TheVariants.{Idle, P1, P2, P3, T1, T2, T3, T4, B1, B2, B3, B4, B5, B6, B7}

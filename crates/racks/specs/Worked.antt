@@ -1,5 +1,5 @@
 -- The worked racks, computed on the definitions: bytes in; number, replies and log buffer out.
-use Rattle.base.specs.Words.{ℕ, List, [], ◌∷◌, ◌++◌, map, drop, replicate, ◌≡◌, refl}
+use Rattle.std.specs.Prelude.{ℕ, List, [], ◌∷◌, ◌++◌, map, drop, replicate, ◌≡◌, refl}
 use Rattle.call_log.specs.{Decode.entry_at, Encode.log_bytes}
 use Rattle.rules.specs.Contents.{before}
 use Rattle.runs.specs.{Run.run_of, Worked.K1, Worked.K4, Worked.K8}

@@ -1,5 +1,5 @@
 -- The rules read aloud, to compare with document 01, "What the judge accepts"; the judge's number is 0 exactly for such a log (`judged_0`).
-use Rattle.base.specs.Words.{ℕ, suc, ◌+◌, ◌*◌, ◌<◌, ◌≤◌, true, false, cond, List, [], ◌∷◌, ◌++◌, length, get_or, ◌⊎◌, ◌↔◌, ◌≡◌}
+use Rattle.std.specs.Prelude.{ℕ, suc, ◌+◌, ◌*◌, ◌<◌, ◌≤◌, true, false, cond, List, [], ◌∷◌, ◌++◌, length, get_or, ◌⊎◌, ◌↔◌, ◌≡◌}
 use Rattle.base.specs.{Bytes.Bytes, Lists.In, Lists.All, Lists.Pairs}
 use Rattle.call_log.specs.{declared.Entry.Entry, declared.What.What, Decode.first_entry, Encode.Log, Encode.InRange, Encode.log_bytes}
 use Rattle.call_log.specs.declared.What.TheVariants.{Pushed, Full, BottomNode, BottomNil, TopNode, TopNil, TopLost}

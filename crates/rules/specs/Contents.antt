@@ -1,5 +1,5 @@
 -- Which nodes each queue holds at each instant, by the calls' moments alone. A log is f, from an entry's index to the entry, with n entries.
-use Rattle.base.specs.Words.{ℕ, zero, suc, Bool, cond, ◌&&◌, ltb, eqb, List, [], ◌∷◌, ◌++◌}
+use Rattle.std.specs.Prelude.{ℕ, zero, suc, Bool, cond, ◌&&◌, ltb, eqb, List, [], ◌∷◌, ◌++◌}
 use Rattle.call_log.specs.{declared.Entry.Entry, declared.What.What, Numbers.bears_moment, Numbers.what}
 use Rattle.call_log.specs.declared.What.TheVariants.{Pushed, Full, BottomNode, BottomNil, TopNode, TopNil, TopLost}
 use Rattle.rules.specs.Search.{first}

@@ -1,5 +1,5 @@
 -- What the judge says of a log's bytes: document 01, "Numbers given back".
-use Rattle.base.specs.Words.{ℕ, Bool, cond, not, ◌&&◌, ltb, leb, eqb, List, length}
+use Rattle.std.specs.Prelude.{ℕ, Bool, cond, not, ◌&&◌, ltb, leb, eqb, List, length}
 use Rattle.call_log.specs.{declared.Entry.Entry, Encode.section_count, Encode.most_entries}
 use Rattle.call_log.specs.Decode.{head_length, log_length, section_count_of, processes_of, slots_of, entry_count_of, entry_at}
 use Rattle.rules.specs.{declared.Verdict.Verdict, Search.first, Search.lowest}

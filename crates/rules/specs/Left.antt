@@ -1,5 +1,5 @@
 -- C-17. The nodes that a log leaves in each queue, how often each was pushed and returned, and what follows for accepted logs. A log is f and n.
-use Rattle.base.specs.Words.{ℕ, zero, suc, ◌+◌, ◌-◌, ◌<◌, ◌≤◌, Bool, true, cond, ◌&&◌, ◌||◌, ltb, leb, eqb, List, [], ◌∷◌, ◌++◌, length, replicate, ◌≡◌}
+use Rattle.std.specs.Prelude.{ℕ, zero, suc, ◌+◌, ◌-◌, ◌<◌, ◌≤◌, Bool, true, cond, ◌&&◌, ◌||◌, ltb, leb, eqb, List, [], ◌∷◌, ◌++◌, length, replicate, ◌≡◌}
 use Rattle.call_log.specs.{declared.Entry.Entry, Numbers.what, Numbers.same, Decode.entry_count_of, Decode.entry_at, Encode.most_entries}
 use Rattle.call_log.specs.declared.What.TheVariants.{Pushed, BottomNode, TopNode}
 use Rattle.rules.specs.{Search.count, Search.sum_to, Contents.bears, Contents.before, Judge.judge_of, Accepted.Accepted}

@@ -1,5 +1,5 @@
 -- Old logs, with 0 for NIL at T4 too (C-15): they are judged as before.
-use Rattle.base.specs.Words.{ℕ, length, ◌⊎◌, ◌↔◌, ◌≡◌}
+use Rattle.std.specs.Prelude.{ℕ, length, ◌⊎◌, ◌↔◌, ◌≡◌}
 use Rattle.call_log.specs.{declared.Entry.Entry, Encode.Log, Encode.log_bytes, Numbers.top_pop, Numbers.nil, Numbers.lost}
 use Rattle.rules.specs.{Judge.judge_of, Accepted.entry_of, Accepted.AcceptedLog}
 

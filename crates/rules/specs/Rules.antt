@@ -1,6 +1,7 @@
 -- Document 01, "What the judge accepts": when entry j of a log breaks each rule. The log is f, from an entry's index to the entry, with n entries,
 -- P processes and C slots. A rule is asked only of logs that keep the earlier ones.
-use Rattle.base.specs.Words.{ℕ, zero, suc, ◌+◌, ◌-◌, ◌*◌, Bool, true, false, cond, not, ◌&&◌, ◌||◌, bool_eq, ltb, leb, eqb, List, [], ◌∷◌, length}
+use Rattle.std.specs.Prelude.{ℕ, zero, suc, ◌+◌, ◌-◌, ◌*◌, Bool, true, false, cond, not, ◌&&◌, ◌||◌, ltb, leb, eqb, List, [], ◌∷◌, length}
+use Rattle.base.specs.Words.{bool_eq}
 use Rattle.call_log.specs.{declared.Entry.Entry, declared.What.What}
 use Rattle.call_log.specs.declared.What.TheVariants.{Pushed, Full, BottomNode, BottomNil, TopNode, TopNil, TopLost}
 use Rattle.call_log.specs.Numbers.{push, bottom_pop, top_pop, nil, full, lost, most_result, no_moment, what, same, is_top_nil}

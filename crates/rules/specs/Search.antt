@@ -1,5 +1,5 @@
 -- Searches over indices: the first that passes a test, whether one does, the lowest key of those that do, and how many do.
-use Rattle.base.specs.Words.{ℕ, zero, suc, ◌+◌, Bool, cond, ◌&&◌, ltb}
+use Rattle.std.specs.Prelude.{ℕ, zero, suc, ◌+◌, Bool, cond, ◌&&◌, ltb}
 
 -- the first of i, i + 1, .. (k of them) that passes, or i + k; by the `let` no later one is looked at
 abbrev pub first : (ℕ → Bool) → ℕ → ℕ → ℕ

@@ -1,5 +1,5 @@
 -- Worked logs: bytes, and the number and entry that document 01 gives for them. Each refusal stands beside a neighbour that is accepted.
-use Rattle.base.specs.Words.{ℕ, List, [], ◌∷◌, ◌++◌, map, take, replicate, ◌≡◌, refl}
+use Rattle.std.specs.Prelude.{ℕ, List, [], ◌∷◌, ◌++◌, map, take, replicate, ◌≡◌, refl}
 use Rattle.call_log.specs.{declared.Entry.Entry, declared.What.What, Decode.entry_count_of, Decode.entry_at, Encode.head_bytes, Encode.log_bytes, Worked.line}
 use Rattle.call_log.specs.declared.What.TheVariants.{Pushed, Full, BottomNode, BottomNil, TopNode, TopNil, TopLost}
 use Rattle.call_log.specs.Numbers.{push, bottom_pop, top_pop, nil, full, lost, no_moment, kind_of, result_of}

@@ -1,5 +1,5 @@
 -- The bytes of a run file, section by section.
-use Rattle.base.specs.Words.{ℕ, List, [], ◌∷◌, ◌++◌, length}
+use Rattle.std.specs.Prelude.{ℕ, List, [], ◌∷◌, ◌++◌, length}
 use Rattle.base.specs.Bytes.{pair}
 use Rattle.runfile.specs.File.{RunFile, section_count}
 use Rattle.runfile.specs.Encode.{calls_bytes}

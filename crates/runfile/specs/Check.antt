@@ -1,5 +1,5 @@
 -- How a refusal is decided: a chain of tests, each with its number, and the first that fails gives the number; 0 means that none does.
-use Rattle.base.specs.Words.{ℕ, zero, suc, ◌+◌, Bool, false, cond, ◌||◌, ltb, List, [], ◌∷◌, length}
+use Rattle.std.specs.Prelude.{ℕ, zero, suc, ◌+◌, Bool, false, cond, ◌||◌, ltb, List, [], ◌∷◌, length}
 
 infix 30 ◌ends_before◌
 infix 25 ◌when◌

@@ -1,5 +1,5 @@
 -- The ranges of a run file, and the file as bytes.
-use Rattle.base.specs.Words.{ℕ, ◌<◌, ◌≤◌, List, [], ◌∷◌, ◌++◌, length, get_or, ◌≡◌}
+use Rattle.std.specs.Prelude.{ℕ, ◌<◌, ◌≤◌, List, [], ◌∷◌, ◌++◌, length, get_or, ◌≡◌}
 use Rattle.base.specs.Bytes.{pair}
 use Rattle.runfile.specs.{declared.Call.Call, Check.sum}
 use Rattle.runfile.specs.File.{RunFile, section_count, most_width, most_size, most_processes, longest_script, longest_schedule}

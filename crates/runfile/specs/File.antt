@@ -1,5 +1,5 @@
 -- The run file: what it says, where its bytes stand, and the number that refuses it.
-use Rattle.base.specs.Words.{ℕ, zero, suc, ◌+◌, ◌*◌, Bool, false, cond, not, ltb, leb, eqb, List, length, get_or, take, drop, ◌≡◌}
+use Rattle.std.specs.Prelude.{ℕ, zero, suc, ◌+◌, ◌*◌, Bool, false, cond, not, ltb, leb, eqb, List, length, get_or, take, drop, ◌≡◌}
 use Rattle.base.specs.{Bytes.byte_at, Bytes.part, Bytes.number_at, Lists.list_of}
 use Rattle.runfile.specs.{declared.Call.Call, declared.Coded.Coded, declared.Reading.TheVariants.Refused, declared.Reading.TheVariants.Good}
 use Rattle.runfile.specs.{declared.Shape.Shape, declared.Reading.Reading, declared.Coded.TheVariants.Right, declared.Coded.TheVariants.Wrong}

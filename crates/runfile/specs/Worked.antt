@@ -1,5 +1,5 @@
 -- Files, each with its number: K9 to K12; for each number a file that gives it and a neighbour that does not; and files with two faults.
-use Rattle.base.specs.Words.{ℕ, suc, List, [], ◌∷◌, ◌++◌, map, take, drop, replicate, ◌≡◌, refl}
+use Rattle.std.specs.Prelude.{ℕ, suc, List, [], ◌∷◌, ◌++◌, map, take, drop, replicate, ◌≡◌, refl}
 use Rattle.base.specs.Lists.{list_of}
 use Rattle.runfile.specs.{declared.Call.TheVariants.Push, declared.Call.TheVariants.Pop, declared.Call.TheVariants.Take, Encode.calls_bytes}
 use Rattle.runfile.specs.File.{good, file_of, reading_of, number_in, later_sections, length_at, calls_before, call_at, step_place, wrong_at}

@@ -1,5 +1,5 @@
 -- The entry of a finished call, with its moment: document 01, "The log".
-use Rattle.base.specs.Words.{ℕ, ◌+◌, ◌*◌, Bool, true, false, cond, not, ◌&&◌, eqb}
+use Rattle.std.specs.Prelude.{ℕ, ◌+◌, ◌*◌, Bool, true, false, cond, not, ◌&&◌, eqb}
 use Rattle.call_log.specs.{Numbers.kind_of, Numbers.result_of, Numbers.no_moment, declared.Entry.Entry, declared.What.What}
 use Rattle.call_log.specs.declared.What.TheVariants as what
 use Rattle.word.specs.Stages.{past_b2, pops_slot}

@@ -1,5 +1,5 @@
 -- What `run` promises: the number of bytes written, and every lent number, for every file and every buffer.
-use Rattle.base.specs.Words.{ℕ, List, [], ◌∷◌, ◌++◌, length, drop, ◌≡◌}
+use Rattle.std.specs.Prelude.{ℕ, List, [], ◌∷◌, ◌++◌, length, drop, ◌≡◌}
 use Rattle.runs.specs.Run.{Outcome, run_of}
 
 -- number, entries, steps, gone-round takes

@@ -1,5 +1,5 @@
 -- A whole run, from the bytes of its file and the length of the log buffer to everything that it gives.
-use Rattle.base.specs.Words.{ℕ, zero, suc, ◌+◌, ◌*◌, ◌/◌, ◌%◌, cond, ltb, List, [], ◌∷◌, length, get_or, replicate}
+use Rattle.std.specs.Prelude.{ℕ, zero, suc, ◌+◌, ◌*◌, ◌/◌, ◌%◌, cond, ltb, List, [], ◌∷◌, length, get_or, replicate}
 use Rattle.base.specs.Lists.{list_of}
 use Rattle.call_log.specs.{Decode.log_length, Encode.log_bytes}
 use Rattle.word.specs.{Stages.is_idle, declared.Word.Word}

@@ -1,5 +1,5 @@
 -- What is shown of every run of a good file, gone-round runs included.
-use Rattle.base.specs.Words.{ℕ, zero, suc, ◌+◌, ◌-◌, ◌<◌, ◌≤◌, true, false, cond, ◌&&◌, ltb, leb, eqb, List, [], ◌∷◌, map, length, get_or, take, ◌↔◌, ◌≡◌}
+use Rattle.std.specs.Prelude.{ℕ, zero, suc, ◌+◌, ◌-◌, ◌<◌, ◌≤◌, true, false, cond, ◌&&◌, ltb, leb, eqb, List, [], ◌∷◌, map, length, get_or, take, ◌↔◌, ◌≡◌}
 use Rattle.base.specs.{Bytes.Bytes, Lists.All}
 use Rattle.call_log.specs.{Numbers.push, Numbers.bottom_pop, Numbers.lost, declared.Entry.Entry}
 use Rattle.word.specs.{Range.in_range, Stages.is_idle, declared.Stage.Stage, declared.Word.Word, declared.Stage.TheVariants.T4}

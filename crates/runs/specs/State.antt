@@ -1,5 +1,5 @@
 -- The state of a run, and its start.
-use Rattle.base.specs.Words.{ℕ, suc, List, [], get_or, take, replicate}
+use Rattle.std.specs.Prelude.{ℕ, suc, List, [], get_or, take, replicate}
 use Rattle.base.specs.Lists.{list_of}
 use Rattle.call_log.specs.declared.Entry.{Entry}
 use Rattle.word.specs.{declared.Word.Word, declared.Stage.Stage, declared.Stage.TheVariants.Idle}

@@ -1,5 +1,5 @@
 -- The states that a run goes through.
-use Rattle.base.specs.Words.{ℕ, ◌≤◌, length, take}
+use Rattle.std.specs.Prelude.{ℕ, ◌≤◌, length, take}
 use Rattle.runfile.specs.File.{RunFile}
 use Rattle.runs.specs.{State.State, State.start, Run.play, Run.close, Run.closing_steps, Run.played}
 

@@ -1,5 +1,5 @@
 -- One step of a run: document 01, "Steps of the queue", through the step of the crate `queue`.
-use Rattle.base.specs.Words.{ℕ, ◌+◌, cond, ◌&&◌, ltb, List, [], ◌∷◌, ◌++◌, get_or, set}
+use Rattle.std.specs.Prelude.{ℕ, ◌+◌, cond, ◌&&◌, ltb, List, [], ◌∷◌, ◌++◌, get_or, set}
 use Rattle.call_log.specs.declared.Entry.{Entry}
 use Rattle.word.specs.{Stages.is_idle, Stages.at_t1, Stages.at_b2, declared.Stage.Stage}
 use Rattle.word.specs.declared.Stage.TheVariants.{P1, T1, B1}

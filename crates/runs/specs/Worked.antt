@@ -1,5 +1,5 @@
 -- K1 to K8 and K13, K4 with no tag, and a run of three queues, computed: bytes in; entries, counts and the first queue's row of the table out.
-use Rattle.base.specs.Words.{ℕ, suc, ◌-◌, ◌*◌, List, [], ◌∷◌, ◌++◌, map, length, get_or, take, drop, replicate, ◌≡◌, refl}
+use Rattle.std.specs.Prelude.{ℕ, suc, ◌-◌, ◌*◌, List, [], ◌∷◌, ◌++◌, map, length, get_or, take, drop, replicate, ◌≡◌, refl}
 use Rattle.call_log.specs.{Decode.log_length, Encode.log_bytes, Worked.line, declared.Entry.Entry}
 use Rattle.runfile.specs.{Encode.encode, File.record_in, Worked.k1, declared.Call.Call}
 use Rattle.runfile.specs.declared.Call.TheVariants.{Push, Pop, Take}

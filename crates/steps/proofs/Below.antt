@@ -1,5 +1,5 @@
 -- The slot that a step touches, if it touches one, is below C.
-use Rattle.base.specs.Words.{ℕ, ◌<◌}
+use Rattle.std.specs.Prelude.{ℕ, ◌<◌}
 use Rattle.steps.specs.declared.{Load.Load, Store.Store}
 use Rattle.steps.specs.declared.Load.TheVariants as load
 use Rattle.steps.specs.declared.Store.TheVariants as store

@@ -1,5 +1,5 @@
 -- Top and tag in one word of 32 bits, the tag in the upper sixteen; and what the step on such a word promises.
-use Rattle.base.specs.Words.{ℕ, ◌+◌, ◌*◌, ◌/◌, ◌%◌, List, ◌≡◌}
+use Rattle.std.specs.Prelude.{ℕ, ◌+◌, ◌*◌, ◌/◌, ◌%◌, List, ◌≡◌}
 use Rattle.word.specs.{Tag.next_tag, declared.Word.Word, declared.Stage.Stage}
 use Rattle.steps.specs.{declared.Stepped.Stepped, declared.PackedWord.PackedWord, declared.PackedStep.PackedStep}
 use Rattle.steps.specs.Step.{in_sixteen, stepped_on, StepOn}

@@ -1,5 +1,5 @@
 -- Document 01's table, row by row. W is the tag's width, C the number of slots, w the control word, v the value of the slot that is loaded.
-use Rattle.base.specs.Words.{ℕ, ◌+◌, ◌-◌, ◌%◌, Bool, true, false, cond, ◌&&◌, ltb, leb, eqb, List, [], ◌∷◌, get_or, set, ◌≡◌}
+use Rattle.std.specs.Prelude.{ℕ, ◌+◌, ◌-◌, ◌%◌, Bool, true, false, cond, ◌&&◌, ltb, leb, eqb, List, [], ◌∷◌, get_or, set, ◌≡◌}
 use Rattle.word.specs.{Tag.next_tag, Stages.row_number, Stages.first_loaded, declared.Word.Word, declared.Stage.Stage}
 use Rattle.word.specs.declared.Stage.TheVariants.{Idle, P1, P2, P3, T1, T2, T3, T4, B1, B2, B3, B4, B5, B6, B7}
 use Rattle.steps.specs.{declared.Next.Next, declared.Load.Load, declared.Store.Store, declared.Stepped.Stepped}

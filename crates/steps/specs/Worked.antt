@@ -1,5 +1,5 @@
 -- The table at its edges, computed: the places where document 01 says that errors tempt.
-use Rattle.base.specs.Words.{ℕ, List, [], ◌∷◌, map, ◌≡◌, refl}
+use Rattle.std.specs.Prelude.{ℕ, List, [], ◌∷◌, map, ◌≡◌, refl}
 use Rattle.steps.specs.{Step.leaves, Step.resets, Step.row_of, Step.in_sixteen, Step.loaded_slot, declared.Stepped.Stepped}
 use Rattle.steps.specs.Packed.{packed, top_of, tag_of, next_age, unpacked}
 use Rattle.steps.specs.declared.Next.TheVariants.{Going, Node, Nil, Lost, Full}

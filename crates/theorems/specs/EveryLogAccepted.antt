@@ -1,5 +1,5 @@
 -- Demand 3: every log that the bench writes without gone-round takes is accepted.
-use Rattle.base.specs.Words.{ℕ, List, get_or, take, ◌≡◌}
+use Rattle.std.specs.Prelude.{ℕ, List, get_or, take, ◌≡◌}
 use Rattle.base.specs.Bytes.{Bytes}
 use Rattle.runs.specs.{Run.run_of, Promise.Ran, Promise.HandsBack}
 use Rattle.rules.specs.{Judge.says, Judge.judge_of, declared.Verdict.Verdict}

@@ -1,5 +1,5 @@
 -- C-17. What is left on the table, of every closed run without gone-round takes: of the bytes of its log and the numbers of its table.
-use Rattle.base.specs.Words.{ℕ, ◌+◌, ◌-◌, ◌*◌, ◌<◌, ◌≤◌, List, [], ◌∷◌, ◌++◌, map, length, get_or, take, replicate, ◌≡◌, refl}
+use Rattle.std.specs.Prelude.{ℕ, ◌+◌, ◌-◌, ◌*◌, ◌<◌, ◌≤◌, List, [], ◌∷◌, ◌++◌, map, length, get_or, take, replicate, ◌≡◌, refl}
 use Rattle.base.specs.{Bytes.Bytes, Lists.list_of}
 use Rattle.call_log.specs.{Decode.processes_of, Decode.slots_of, Decode.entry_count_of, Decode.entry_at, Encode.log_bytes}
 use Rattle.rules.specs.Contents.{before}

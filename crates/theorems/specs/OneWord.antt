@@ -1,5 +1,5 @@
 -- Top and tag in one word, and all slots in one row: every step, log and count is as in the layout before, and the desk shows the same numbers.
-use Rattle.base.specs.Words.{ℕ, ◌<◌, true, List, length, take, ◌≡◌}
+use Rattle.std.specs.Prelude.{ℕ, ◌<◌, true, List, length, take, ◌≡◌}
 use Rattle.word.specs.{Range.in_range, declared.Word.Word, declared.Stage.Stage}
 use Rattle.steps.specs.{Step.stored, Step.stepped_on, declared.Stepped.Stepped, declared.PackedWord.PackedWord, declared.PackedStep.PackedStep}
 use Rattle.steps.specs.Packed.{packed, packed_word, unpacked, unpacked_step, StepPacked}

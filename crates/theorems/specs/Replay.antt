@@ -1,5 +1,5 @@
 -- A run stepped by hand at the desk: a person keeps a sheet, lends one stage after another, and notes the answers; the desk alone makes the steps.
-use Rattle.base.specs.Words.{ℕ, zero, suc, ◌/◌, ◌%◌, ◌<◌, cond, ltb, List, [], ◌∷◌, ◌++◌, map, length, get_or, set, take, drop, replicate, ◌≡◌, refl}
+use Rattle.std.specs.Prelude.{ℕ, zero, suc, ◌/◌, ◌%◌, ◌<◌, cond, ltb, List, [], ◌∷◌, ◌++◌, map, length, get_or, set, take, drop, replicate, ◌≡◌, refl}
 use Rattle.base.specs.{Lists.list_of, Bytes.Bytes}
 use Rattle.desk.specs.{Desk.number_of, Desk.stage_of, Desk.desk_answer, Desk.desk_word, Desk.desk_slots, declared.Answer.Answer}
 use Rattle.word.specs.{Stages.is_idle, declared.Stage.Stage, declared.Word.Word}

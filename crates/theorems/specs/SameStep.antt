@@ -1,5 +1,5 @@
 -- The run's step and the desk's are the same: both are `stepped_on`, on the queue's word and slots and the process's stage.
-use Rattle.base.specs.Words.{ℕ, ◌<◌, true, List, [], ◌∷◌, length, get_or, ◌⊎◌, ◌≡◌}
+use Rattle.std.specs.Prelude.{ℕ, ◌<◌, true, List, [], ◌∷◌, length, get_or, ◌⊎◌, ◌≡◌}
 use Rattle.word.specs.{Range.in_range, declared.Stage.Stage, declared.Word.Word}
 use Rattle.steps.specs.{Step.stored, Step.stepped_on, Step.stage_after, declared.Next.Next, declared.Stepped.Stepped}
 use Rattle.desk.specs.{Desk.result_of, Desk.AtDesk, declared.Answer.Answer}

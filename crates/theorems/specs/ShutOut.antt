@@ -1,6 +1,6 @@
 -- The wrong programs that document 01 shuts out by name: of each, that it cannot keep the promise. A bench here is whatever keeps the promise of `run`;
 -- what keeps that of `run_len`, as the function for a host in C does, keeps it too, with the written front part of its buffer.
-use Rattle.base.specs.Words.{ℕ, List, length, get_or, take, replicate, ◌≡◌}
+use Rattle.std.specs.Prelude.{ℕ, List, length, get_or, take, replicate, ◌≡◌}
 use Rattle.base.specs.Bytes.{Bytes}
 use Rattle.call_log.specs.Decode.{entry_at}
 use Rattle.runs.specs.{Promise.Ran, Promise.HandsBack, Run.table_size, Worked.Case, Worked.K3, Worked.room}

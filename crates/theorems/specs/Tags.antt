@@ -1,5 +1,5 @@
 -- The tag counts resets, and goes round: fewer than 2^W resets during each top pop are enough for gone-round to be 0.
-use Rattle.base.specs.Words.{ℕ, ◌+◌, ◌%◌, ◌^◌, ◌<◌, List, length, ◌↔◌, ◌≡◌}
+use Rattle.std.specs.Prelude.{ℕ, ◌+◌, ◌%◌, ◌^◌, ◌<◌, List, length, ◌↔◌, ◌≡◌}
 use Rattle.base.specs.Bytes.{Bytes}
 use Rattle.word.specs.{Stages.row_number, declared.Stage.TheVariants.T4}
 use Rattle.runfile.specs.{Encode.InRanges, File.RunFile, File.good, File.file_of}

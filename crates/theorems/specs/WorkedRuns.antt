@@ -1,5 +1,5 @@
 -- The worked runs K1 to K8, K10 and K14 of document 01, and K4 with no tag, in one list: bytes in; number, entries, counts and verdict out.
-use Rattle.base.specs.Words.{ℕ, List, [], ◌∷◌, map, ◌≡◌, refl}
+use Rattle.std.specs.Prelude.{ℕ, List, [], ◌∷◌, map, ◌≡◌, refl}
 use Rattle.runs.specs.Run.{refusal, run_of}
 use Rattle.runs.specs.Worked.{Case, room, shown, expected, K1, K2, K3, K4, K4_no_tag, K5, K6, K7, K8}
 use Rattle.rules.specs.{Contents.before, Judge.judge_of}

@@ -1,5 +1,5 @@
 -- Where a stage stands in document 01's table, and the numbers that it carries.
-use Rattle.base.specs.Words.{ℕ, ◌-◌, Bool, ◌&&◌, ltb, eqb, List, [], ◌∷◌, get_or}
+use Rattle.std.specs.Prelude.{ℕ, ◌-◌, Bool, ◌&&◌, ltb, eqb, List, [], ◌∷◌, get_or}
 use Rattle.word.specs.declared.Stage.{Stage}
 use Rattle.word.specs.declared.Stage.TheVariants.{Idle, P1, P2, P3, T1, T2, T3, T4, B1, B2, B3, B4, B5, B6, B7}
 

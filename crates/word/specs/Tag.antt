@@ -1,5 +1,5 @@
 -- The tag: with W bits the tag after 2^W − 1 is 0. With none (W = 0) it is always 0, and so is its next value.
-use Rattle.base.specs.Words.{ℕ, ◌+◌, ◌%◌, ◌^◌, Bool, ltb}
+use Rattle.std.specs.Prelude.{ℕ, ◌+◌, ◌%◌, ◌^◌, Bool, ltb}
 
 abbrev pub next_tag : ℕ → ℕ → ℕ
 next_tag W g = (g + 1) % 2 ^ W

@@ -1,5 +1,5 @@
 -- The tag at its edges, and where stages stand, computed.
-use Rattle.base.specs.Words.{ℕ, true, false, [], ◌∷◌, map, ◌≡◌, refl}
+use Rattle.std.specs.Prelude.{ℕ, true, false, [], ◌∷◌, map, ◌≡◌, refl}
 use Rattle.word.specs.{Tag.next_tag, Tag.is_tag, declared.Word.Word}
 use Rattle.word.specs.Stages.{row_number, first_loaded, is_idle, at_t1, at_b2, past_b2, pops_slot}
 use Rattle.word.specs.declared.Stage.TheVariants.{Idle, T1, T2, T3, B2, B3, B7}

@@ -1,5 +1,5 @@
 -- The words of a line stand apart by blanks; a number is 0 to 65,535, and 65,536 stands for a word that is none.
-use Rattle.base.specs.Words.{ℕ, ◌+◌, ◌-◌, ◌*◌, Bool, true, false, cond, ◌&&◌, ◌||◌, ltb, eqb, List, [], ◌∷◌}
+use Rattle.std.specs.Prelude.{ℕ, ◌+◌, ◌-◌, ◌*◌, Bool, true, false, cond, ◌&&◌, ◌||◌, ltb, eqb, List, [], ◌∷◌}
 use Rattle.words.specs.declared.Words.{Words}
 
 -- a space, a tab or a carriage return

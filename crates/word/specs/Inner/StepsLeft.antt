@@ -1,5 +1,5 @@
 -- The measure by which every call returns.
-use Rattle.base.specs.Words.{ℕ, ◌-◌, cond, leb, eqb}
+use Rattle.std.specs.Prelude.{ℕ, ◌-◌, cond, leb, eqb}
 use Rattle.word.specs.Stages.{row_number}
 use Rattle.word.specs.declared.Stage.{Stage}
 
