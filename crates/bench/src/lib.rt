@@ -116,7 +116,7 @@ pub fn run<'a>(
     table: &mut [u16; TABLE_SIZE],
 ) -> &'a mut [u8]
     ensures hands_back { HandsBack file.now (length buffer.old) result.now report.new table.new }
-    ensures ref_ptr_value { result.ref_ptr ≡ buffer.entry.ref_ptr }
+    ensures front { result.ref_ptr ≡ buffer.entry.ref_ptr }
 {
     let written = run_len(file, buffer, report, table);
     &mut buffer[..written]
