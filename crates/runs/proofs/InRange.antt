@@ -48,9 +48,9 @@ below_C f h s o p lt =
           (loaded (slots_at s (queue_of p r.call)) (loaded_slot r.stage)) r.stage k.placed.stage);
     })
 
-pub every_step-in_range : WhoeverSteps (λ f s p r. let q : ℕ = queue_of p r.call in
+pub every_step_in_range : WhoeverSteps (λ f s p r. let q : ℕ = queue_of p r.call in
     in_range f.width f.size (length (get_or s.slots q [])) (queue_at s.bench q).word r.stage ≡ true)
-every_step-in_range f h s o p lt =
+every_step_in_range f h s o p lt =
     let v = sound f h s o in
     ready_case f h In s v (each_scripted f h s o) p lt (λ e. placed_in_range (sizes_of f) (fit f h) s v p (process_at s.bench p) (v.each p lt))
     (λ r k c. placed_in_range (sizes_of f) (fit f h) s v p r k.placed)

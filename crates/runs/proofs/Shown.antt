@@ -6,7 +6,7 @@ use Rattle.runs.specs.Run.{Outcome}
 use Rattle.runs.specs.Shown.{Shown}
 use Rattle.runs.proofs.ClosingLaws.{steps_most, all_closed_idle}
 use Rattle.runs.proofs.BegunLaws.{begun_once}
-use Rattle.runs.proofs.InRange.{below_C, every_step-in_range, run_cases}
+use Rattle.runs.proofs.InRange.{below_C, every_step_in_range, run_cases}
 use Rattle.runs.proofs.LostLaws.{lost_3}
 use Rattle.runs.proofs.OwnLaws.{own_steps_most}
 
@@ -17,7 +17,7 @@ shown = record {
   next_step = λ f h s o p lt. record {
     loads = (below_C f h s o p lt).loads;
     stores = (below_C f h s o p lt).stores;
-    in_range = every_step-in_range f h s o p lt;
+    in_range = every_step_in_range f h s o p lt;
     lost_3 = lost_3 f h s o p lt;
   };
   never_9 = λ file b room.

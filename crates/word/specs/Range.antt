@@ -1,4 +1,4 @@
--- What can be stepped: the desk gives 10 exactly where `in_range` fails. In a run it never does (`every_step-in_range` of crate `runs`).
+-- What can be stepped: the desk gives 10 exactly where `in_range` fails. In a run it never does (`every_step_in_range` of crate `runs`).
 use Rattle.std.specs.Prelude.{ℕ, Bool, true, ◌&&◌, ltb, leb, eqb}
 use Rattle.word.specs.{Tag.is_tag, declared.Word.Word, declared.Stage.Stage}
 use Rattle.word.specs.declared.Stage.TheVariants.{Idle, P1, P2, P3, T1, T2, T3, T4, B1, B2, B3, B4, B5, B6, B7}
