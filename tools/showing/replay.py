@@ -1,4 +1,4 @@
-"""A run stepped by hand: the sheet of `every-run-replayed` lends the desk one stage after another and notes what it answers. The desk alone makes the
+"""A run stepped by hand: the sheet of `every_run_replayed` lends the desk one stage after another and notes what it answers. The desk alone makes the
 steps; here is only who steps next, and what is lent."""
 import subprocess
 from typing import NamedTuple
