@@ -2,6 +2,8 @@
 pub mod NumbersLaws
 -- A `match` on what a call did, whose arms take several variants.
 pub mod WhatLaws
+-- Where an entry stands in the bytes.
+pub mod DecodeLaws
 -- The round trip of a log and its bytes.
 pub mod EncodeLaws
 -- Two answers that one promise allows are equal.

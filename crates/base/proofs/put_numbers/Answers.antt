@@ -1,18 +1,11 @@
 -- `put_numbers` meets its contract, as `put` does. The loop keeps: the first i numbers stand from the place on, and all else is as it was.
 use Prim.Native.Nat.{◌+◌, ◌<◌}
-use native.Mathlib.Numerals.{add-one}
 use native.Mathlib.Omega.{arith}
-use borrow.Author.Rules.{rules}
-use lib.Seq.{paste-suc}
-use lib.ListN.{length, length-set}
+use lib.ListN.{length}
+use Rattle.base.proofs.Bytes.{put_more}
 use Rattle.base.proofs.put_numbers.Goals as goal
 
 pub loop-i-preserved : goal.loop-i-preserved
 loop-i-preserved c =
-    let a = c.args in
-    let l = c.loop-i in
-    let room : a.at + l.i < length a.buffer.now = omega arith in (
-      search rules,
-      rw (l.invariant.1, add-one) (paste-suc a.buffer.now a.at a.numbers.now l.i 0 room c.loop-i-test.true),
-      simp length-set l.invariant.2,
-    )
+    let room : c.args.at + c.loop-i.i < length c.args.buffer.now = omega arith in
+    put_more _ _ _ _ _ room c.loop-i-test.true c.loop-i.invariant

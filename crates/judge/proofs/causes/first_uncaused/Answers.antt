@@ -3,7 +3,7 @@
 use mathlib.Core.Path.{◌≡◌, sym, subst, ◌∙◌}
 use mathlib.Core.Bool.{true, false, cond, ◌&&◌}
 use mathlib.Core.List.{List}
-use Prim.Native.Nat.{ℕ, ◌+◌, ◌≤◌, ◌<◌}
+use Prim.Native.Nat.{ℕ, ◌+◌, ◌*◌, ◌≤◌, ◌<◌}
 use native.Mathlib.Omega.{arith}
 use borrow.Author.Rules.{rules}
 use borrow.Author.Tests.{ltb-true, leb-true}
@@ -14,9 +14,10 @@ use Rattle.base.proofs.Bools.{and_0, and_1}
 use Rattle.rules.proofs.SearchLaws.{first_start, first_next, first_found}
 use Rattle.rules.specs.Rules.{breaks5}
 use Rattle.keys.specs.Inner.Keys.{moment_at, index_at}
-use Rattle.judge.specs.Inner.Causes.{Passable, passed_by, Clean}
+use Rattle.judge.specs.Inner.Causes.{Passable, passed_by, uncaused_by, Clean}
+use Rattle.call_log.specs.Numbers.{what, is_top_nil}
 use Rattle.judge.proofs.ShelfLaws.{Shelves, shelves_start, shelves_next, passable}
-use Rattle.judge.proofs.CauseLaws.{is_due, not_due, call_early, passed_next, query_told, skip_told}
+use Rattle.judge.proofs.CauseLaws.{Passed, is_due, not_due, call_early, passed_next, query_told, skip_told}
 use Rattle.judge.proofs.causes.first_uncaused.Goals as goal
 
 -- the next entry, where it is due up to a moment
@@ -96,39 +97,34 @@ loop-j-preserved-then-next-lt256 c =
       passed_next f a.n a.keys.now a.count p.0 nil l.k l.j c.entry-nil.ensures c.loop-j-test.true upto,
     )
 
--- no entry is due up to a moment
-none_due : (keys : List ℕ) (count k to next : ℕ) → next ≡ cond (ltb k count && leb (moment_at keys k) to) (index_at keys k) 256 → 256 ≤ next
-    → (ltb k count && leb (moment_at keys k) to) ≡ false
-none_due keys count k to next due u =
-    not_due (ltb k count && leb (moment_at keys k) to) (index_at keys k) next due (omega arith) (λ v. omega arith)
+-- no entry is due up to the end of the call, so that what the shelves say of it is rule 5's own answer
+module _ (f : ℕ → Entry) (n : ℕ) (keys : List ℕ) (count : ℕ) (p : Clean f n keys count) (k : ℕ) (within : k ≤ count) (shelves : List ℕ)
+    (s : Shelves f n keys k shelves) (j : ℕ) (below : j < n) (early : Passed f n keys count p k j) (nil : Entry) (is : nil ≡ f j) (next : ℕ)
+    (due : next ≡ cond (ltb k count && leb (moment_at keys k) (2 * nil.end + 1)) (index_at keys k) 256) (u : 256 ≤ next) where
+  none_due : (ltb k count && leb (moment_at keys k) (2 * nil.end + 1)) ≡ false
+  none_due = not_due (ltb k count && leb (moment_at keys k) (2 * nil.end + 1)) (index_at keys k) next due (omega arith) (λ v. omega arith)
+
+  broken : is_top_nil (what nil) ≡ true → uncaused_by shelves nil ≡ breaks5 f n j
+  broken top = query_told f n keys count p k within shelves s j below early nil is none_due top
 
 pub returns-then-uncaused : goal.returns-then-uncaused
 returns-then-uncaused c =
-    let a = c.args in
     let l = c.loop-j in
-    let f = entry_at a.log.now in
-    let p = c.requires.0 in
     let below = c.loop-j-test.true in
-    let nil = c.entry-nil.result in
-    let none = none_due a.keys.now a.count l.k _ c.due-next.result c.due-next.ensures c.if-next-lt256.false in
-    let broken = c.uncaused.ensures ∙ query_told f a.n a.keys.now a.count p l.k l.invariant.1 l.shelves l.invariant.3 l.j below l.invariant.4
-    nil c.entry-nil.ensures none (sym c.top_nil.ensures ∙ c.if-not-top_nil.false) in
-    first_found (breaks5 f a.n) l.j a.n below (sym broken ∙ c.if-uncaused.true) ∙ l.invariant.2
+    let told = broken _ _ _ _ c.requires.0 l.k l.invariant.1 l.shelves l.invariant.3 l.j below l.invariant.4 _ c.entry-nil.ensures _
+    c.due-next.ensures c.if-next-lt256.false (sym c.top_nil.ensures ∙ c.if-not-top_nil.false) in
+    first_found (breaks5 (entry_at c.args.log.now) c.args.n) l.j c.args.n below (sym (c.uncaused.ensures ∙ told) ∙ c.if-uncaused.true) ∙ l.invariant.2
 
 pub loop-j-preserved : goal.loop-j-preserved
 loop-j-preserved c =
-    let a = c.args in
     let l = c.loop-j in
-    let f = entry_at a.log.now in
-    let p = c.requires.0 in
     let below = c.loop-j-test.true in
-    let nil = c.entry-nil.result in
-    let none = none_due a.keys.now a.count l.k _ c.due-next.result c.due-next.ensures c.if-next-lt256.false in
-    let broken = c.uncaused.ensures ∙ query_told f a.n a.keys.now a.count p l.k l.invariant.1 l.shelves l.invariant.3 l.j below l.invariant.4
-    nil c.entry-nil.ensures none (sym c.top_nil.ensures ∙ c.if-not-top_nil.false) in (
+    let told = broken _ _ _ _ c.requires.0 l.k l.invariant.1 l.shelves l.invariant.3 l.j below l.invariant.4 _ c.entry-nil.ensures _
+    c.due-next.ensures c.if-next-lt256.false (sym c.top_nil.ensures ∙ c.if-not-top_nil.false) in (
       omega (arith, below),
       l.invariant.1,
-      first_next (breaks5 f a.n) l.j a.n below (sym broken ∙ c.if-uncaused.false) ∙ l.invariant.2,
+      first_next (breaks5 (entry_at c.args.log.now) c.args.n) l.j c.args.n below (sym (c.uncaused.ensures ∙ told) ∙ c.if-uncaused.false)
+          ∙ l.invariant.2,
       l.invariant.3,
       λ x u v. l.invariant.4 x (omega arith) v,
     )

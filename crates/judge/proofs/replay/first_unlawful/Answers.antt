@@ -16,15 +16,11 @@ loop-k-init c =
 
 pub lawful-requires : goal.lawful-requires
 lawful-requires c =
-    let a = c.args in
     let p = c.requires in
-    let l = c.loop-k in
-    let f = entry_at a.log.now in
+    let s = c.loop-k.invariant.1 in
     let below = c.loop-k-test.true in
-    let s = l.invariant.1 in
-    let t = told f a.n a.keys.now a.count p.1 l.k below a.watch a.width l.nodes l.ends l.c s p.3.fits p.3.small p.0 c.entry-e.result
-    c.entry-e.ensures in
-    let few = added_low f a.n a.keys.now a.count p.1 l.k below a.watch a.width l.nodes l.ends l.c s p.3.fits p.3.small p.0 in
+    let t = told _ _ _ _ p.1 _ below _ _ _ _ _ s p.3.fits p.3.small p.0 _ c.entry-e.ensures in
+    let few = added_low _ _ _ _ p.1 _ below _ _ _ _ _ s p.3.fits p.3.small p.0 in
     let narrow = p.3.small in (
       omega (arith, t.high, s.nodes_long),
       omega (arith, t.high, t.few, narrow),
@@ -34,42 +30,28 @@ lawful-requires c =
 
 pub returns-then-not-lawful : goal.returns-then-not-lawful
 returns-then-not-lawful c =
-    let a = c.args in
     let p = c.requires in
-    let l = c.loop-k in
-    let f = entry_at a.log.now in
+    let s = c.loop-k.invariant.1 in
     let below = c.loop-k-test.true in
-    let s = l.invariant.1 in
-    let t = told f a.n a.keys.now a.count p.1 l.k below a.watch a.width l.nodes l.ends l.c s p.3.fits p.3.small p.0 c.entry-e.result
-    c.entry-e.ensures in
-    let ok = c.lawful.ensures ∙ t.ok in
-    worst_is f a.n a.keys.now a.count p.1 l.k below
-    (wrong_is f a.n a.keys.now a.count p.1 l.k below a.watch a.width l.nodes l.ends l.c s p.3.fits p.3.small p.0
-    (sym ok ∙ c.if-not-lawful.true))
-    s.fine
+    let t = told _ _ _ _ p.1 _ below _ _ _ _ _ s p.3.fits p.3.small p.0 _ c.entry-e.ensures in
+    let wrong = wrong_is _ _ _ _ p.1 _ below _ _ _ _ _ s p.3.fits p.3.small p.0 (sym (c.lawful.ensures ∙ t.ok) ∙ c.if-not-lawful.true) in
+    worst_is _ _ _ _ p.1 _ below wrong s.fine
 
 pub bounds-nodes-row : goal.bounds-nodes-row
 bounds-nodes-row c =
-    let a = c.args in
     let p = c.requires in
-    let l = c.loop-k in
-    let s = l.invariant.1 in
-    let t = told (entry_at a.log.now) a.n a.keys.now a.count p.1 l.k c.loop-k-test.true a.watch a.width l.nodes l.ends l.c s p.3.fits p.3.small p.0
-    c.entry-e.result c.entry-e.ensures in
+    let s = c.loop-k.invariant.1 in
+    let t = told _ _ _ _ p.1 _ c.loop-k-test.true _ _ _ _ _ s p.3.fits p.3.small p.0 _ c.entry-e.ensures in
     omega (arith, t.high, s.nodes_long)
 
 pub loop-k-preserved : goal.loop-k-preserved
 loop-k-preserved c =
-    let a = c.args in
     let p = c.requires in
-    let l = c.loop-k in
+    let s = c.loop-k.invariant.1 in
     let below = c.loop-k-test.true in
-    let s = l.invariant.1 in
-    let t = told (entry_at a.log.now) a.n a.keys.now a.count p.1 l.k below a.watch a.width l.nodes l.ends l.c s p.3.fits p.3.small p.0
-    c.entry-e.result c.entry-e.ensures in
-    let ok = c.lawful.ensures ∙ t.ok in (
+    let t = told _ _ _ _ p.1 _ below _ _ _ _ _ s p.3.fits p.3.small p.0 _ c.entry-e.ensures in (
       omega (arith, below),
-      rw (c.choose-c.ensures, c.pushed.ensures, c.moved.ensures) (t.turn (sym ok ∙ c.if-not-lawful.false)),
+      rw (c.choose-c.ensures, c.pushed.ensures, c.moved.ensures) (t.turn (sym (c.lawful.ensures ∙ t.ok) ∙ c.if-not-lawful.false)),
     )
 
 pub returns : goal.returns
