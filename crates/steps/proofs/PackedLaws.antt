@@ -1,5 +1,6 @@
 -- Top and tag in one word: packing and unpacking, and that a step whose answer, unpacked, is the table's row keeps the promise.
-use Rattle.std.proofs.Common.{◌≡◌, ℕ, ◌+◌, ◌*◌, ◌%◌, ◌<◌, Bool, true, false, ◌&&◌, eqb, List, sym, refl, ap, ◌∙◌, subst, mod-lt, mod-eq_of_lt, div-add-mod', arith, eq-eqb, eqb-true}
+use Rattle.std.proofs.Common.{◌≡◌, ℕ, ◌+◌, ◌*◌, ◌%◌, ◌<◌, Bool, true, false, ◌&&◌, eqb, List, sym, refl, ap, ◌∙◌, subst}
+use Rattle.std.proofs.Common.{mod-lt, mod-eq_of_lt, div-add-mod', arith, eq-eqb, eqb-true}
 use borrow.Author.Tests.{eqb-false}
 use Rattle.word.specs.Tag.{next_tag}
 use Rattle.word.specs.declared.Word.{Word}

@@ -123,7 +123,8 @@ pub record ToClose (shape : Shape) (b : HeldBench) (flat : List ℕ) : Type 0 wh
   pub sound : Sound (sizes_in shape) (state_in shape.size b flat)
 
 -- what the end of a call gives the log and the counts: r and owner are the records of its process and of its queue's owner, w and resets the queue's
-pub record Tells (p n entries : ℕ) (r owner : Process) (w : PackedWord) (resets : ℕ) (step : PackedStep) (log : List ℕ) (m : Told) (log' : List ℕ) : Type 0 where
+pub record Tells (p n entries : ℕ) (r owner : Process) (w : PackedWord) (resets : ℕ) (step : PackedStep) (log : List ℕ) (m : Told)
+    (log' : List ℕ) : Type 0 where
   pub over : Ended
   pub ends : over ≡ ended p n r owner (top_of w.age.word) step.next
   pub bytes : log' ≡ put_entries entries (entries_in over) log

@@ -21,5 +21,7 @@ host_run_then_judge file b buffer written buffer' report table h number gone n e
     let front = front_is (run_of file (length buffer)) buffer written buffer' report table h in
     let v : judge_of (run_of file (length buffer)).log ≡ says 0 0 =
     every_log_accepted file b (length buffer) (sym (ap (λ (l : List ℕ). get_or l 0 0) h.counts) ∙ number)
-    (sym (ap (λ (l : List ℕ). get_or l 3 0) h.counts) ∙ gone) in
-    (e ∙ ap (λ (l : List ℕ). (judge_of l).number) front ∙ ap (λ (x : Verdict). x.number) v, d ∙ ap (λ (l : List ℕ). (judge_of l).entry) front ∙ ap (λ (x : Verdict). x.entry) v)
+    (sym (ap (λ (l : List ℕ). get_or l 3 0) h.counts) ∙ gone) in (
+      e ∙ ap (λ (l : List ℕ). (judge_of l).number) front ∙ ap (λ (x : Verdict). x.number) v,
+      d ∙ ap (λ (l : List ℕ). (judge_of l).entry) front ∙ ap (λ (x : Verdict). x.entry) v,
+    )

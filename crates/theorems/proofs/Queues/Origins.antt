@@ -208,7 +208,8 @@ module _ (f : RunFile) (w : InRanges f) (s : State) (v : Sound (sizes_of f) s) (
 
   origins_act : Origins f (acted p r s (row_at (sizes_of f) s p r))
   origins_act =
-      let lg = logged o refl (gives f.width f.size (queue_at s.bench (queue_of p r.call)).word (loaded (slots_at s (queue_of p r.call)) (loaded_slot r.stage)) r.stage) in
+      let lg = logged o refl
+      (gives f.width f.size (queue_at s.bench (queue_of p r.call)).word (loaded (slots_at s (queue_of p r.call)) (loaded_slot r.stage)) r.stage) in
       let lg' : Log t.log = subst Log (sym (log_after_lem s.log (ending p r s.bench o))) lg in
       record { each = each_act f w s v i.each p r k c; origin = lg'.0; once = lg'.1 }
 

@@ -87,7 +87,8 @@ module _ (f : RunFile) (h : InRanges f) (s : State) (v : Sound (sizes_of f) s) (
         word = v.words q lt;
         stage = i;
       }) in
-      subst (λ (y : Word). (desk_answer W C y x z ≡ answers.Stepped (row q z).next) × (desk_word W C y x z ≡ (row q z).word) × (desk_slots W C y x z ≡ stored x (row q z).store))
+      subst (λ (y : Word). (desk_answer W C y x z ≡ answers.Stepped (row q z).next) × (desk_word W C y x z ≡ (row q z).word)
+      × (desk_slots W C y x z ≡ stored x (row q z).store))
       (sym (word_at_lem q)) (row_done W C w x z e)
 
   -- process p, whose turn it is, lends the stage z on queue q

@@ -4,21 +4,24 @@ use mathlib.Core.Path.{◌≡◌, refl, sym, ap, ◌∙◌}
 use mathlib.Core.Bool.{Bool, true, false, ◌&&◌, cond}
 use mathlib.Core.List.{List}
 use lib.Dec.{ltb}
-use lib.ListN.{length, get_or}
+use lib.ListN.{length, get_or, set}
 use native.Mathlib.Omega.{arith}
 use Rattle.word.specs.Stages.{is_idle}
 use Rattle.runs.specs.State.{Process}
 use Rattle.runs.specs.Moment.{queue_of}
-use Rattle.runs.specs.Turn.{ready}
+use Rattle.runs.specs.Turn.{ready, process_after}
 use Rattle.runs.specs.Inner.Sound.{AllIn}
 use Rattle.runs.proofs.TurnLaws.{calls_in_lem, entries_few, gone_most}
 use Rattle.runfile.specs.declared.Shape.{Shape}
 use Rattle.records.specs.Inner.Records.{process_in}
-use Rattle.bench.specs.Inner.Layout.{record_in, state_in, sizes_in, Becomes, ToWalk}
+use Rattle.bench.specs.Inner.Layout.{record_in, state_in, sizes_in, fresh_held, Becomes, ToWalk, StepsIn, Tells}
 use Rattle.bench.specs.Inner.Walk.{walked_one}
 use Rattle.bench.specs.declared.Bench.{Bench}
+use Rattle.bench.specs.declared.turn.Told.{Told}
+use Rattle.steps.specs.declared.PackedStep.{PackedStep}
+use Rattle.records.specs.declared.Process.{Process as HeldProcess}
 use Rattle.bench.proofs.LayoutLaws.{held_resets, held_b2}
-use Rattle.bench.proofs.WayLaws.{same_b2, way_idle, on_queue, way_on, way_ends}
+use Rattle.bench.proofs.WayLaws.{with_steps, same_b2, way_idle, on_queue, way_on, way_ends}
 use Rattle.bench.proofs.RunLaws.{Walked, walked_start, walked_more, walked_all, goes_on}
 use Rattle.bench.proofs.loops.walk.Invariants.{calls_of}
 use Rattle.bench.proofs.loops.walk.Goals as goal
@@ -31,19 +34,22 @@ no_more : (t : Bool) (n : ℕ) → cond t 0 n ≤ n
 no_more true n = omega arith
 no_more false n = omega arith
 
--- a turn: what the function is given, and how far the loop has come
-module _ (file : List ℕ) (a : Shape) (schedule : List ℕ) (closing : Bool) (state : Bench) (slots₀ log₀ : List ℕ) (given : ToWalk a schedule state slots₀)
-    (run : Bench) (slots log : List ℕ) (i : ℕ)
+-- a turn: what the function is given, how far the loop has come, and that the loop goes on
+module _ (file : List ℕ) (closing : Bool) (i : ℕ) {a : Shape} {schedule : List ℕ} {state run : Bench} {slots₀ log₀ slots log : List ℕ}
+    (given : ToWalk a schedule state slots₀)
     (come : Walked (sizes_in a) a.calls state.entries closing (calls_of file a) schedule log₀ (state_in a.size state slots₀) i run slots log)
     (on : (ltb i (length schedule) && ltb run.entries a.calls) ≡ true) where
+  abbrev process : ℕ
+  process = get_or schedule i 0
+
   -- the process is one of the run's
   here : i < length schedule
   here = goes_on _ _ run.entries a.calls on
 
-  below_P : get_or schedule i 0 < a.processes
+  below_P : process < a.processes
   below_P = given.below i here
 
-  p_small : get_or schedule i 0 < 8
+  p_small : process < 8
   p_small = omega (arith, below_P, given.fit.processes)
 
   steps_few : run.steps ≤ 4143
@@ -53,16 +59,55 @@ module _ (file : List ℕ) (a : Shape) (schedule : List ℕ) (closing : Bool) (s
   calls_are = calls_in_lem file a.processes a.calls
 
   -- what its step comes to is one step more of the walk
-  more : (b : Bench) (slots' log' : List ℕ)
-      → Becomes a.size run.entries log (walked_one closing a.width a.size (calls_of file a) (get_or schedule i 0) (state_in a.size run slots)) b slots' log'
+  more : {b : Bench} {slots' log' : List ℕ}
+      → Becomes a.size run.entries log (walked_one closing a.width a.size (calls_of file a) process (state_in a.size run slots)) b slots' log'
       → Walked (sizes_in a) a.calls state.entries closing (calls_of file a) schedule log₀ (state_in a.size state slots₀) (i + 1) b slots' log'
-  more b slots' log' step = walked_more (sizes_in a) _ _ _ (calls_of file a) schedule _ _ i _ _ _ come given.fit calls_are b slots' log' here below_P step
+  more {b = b} {slots' = slots'} {log' = log'} step =
+      walked_more (sizes_in a) _ _ _ (calls_of file a) schedule _ _ i _ _ _ come given.fit calls_are b slots' log' here below_P step
 
-  -- its call is on one of the queues
-  q_small : (r : Process) → r ≡ cond closing (record_in run (get_or schedule i 0)) (ready (calls_of file a) run.steps (record_in run (get_or schedule i 0)))
-      → is_idle r.stage ≡ false → (q : ℕ) → q ≡ queue_of (get_or schedule i 0) r.call → q < 8
-  q_small r d busy q e =
-      on_queue (sizes_in a) given.fit closing (calls_of file a) calls_are run slots log come.0.sound (get_or schedule i 0) below_P r d busy q e
+  -- the process with the call that it begins, or that it is in
+  module _ {r : Process} (ready_is : r ≡ cond closing (record_in run process) (ready (calls_of file a) run.steps (record_in run process))) where
+    -- its call is on one of the queues
+    q_small : is_idle r.stage ≡ false → {q : ℕ} → q ≡ queue_of process r.call → q < 8
+    q_small busy {q = q} e =
+        on_queue (sizes_in a) given.fit closing (calls_of file a) calls_are run slots log come.0.sound process below_P r ready_is busy q e
+
+    -- it is in none, and waits
+    waits : is_idle r.stage ≡ true → {m : ℕ} → m ≡ cond closing 0 1
+        → Walked (sizes_in a) a.calls state.entries closing (calls_of file a) schedule log₀ (state_in a.size state slots₀) (i + 1)
+        (with_steps run (run.steps + m)) slots log
+    waits idle {m = m} e = more
+        (way_idle (sizes_in a) given.fit closing (calls_of file a) calls_are run slots log come.0.sound process below_P r ready_is idle m e
+        come.0.becomes.whole)
+
+    -- its step, and the record that it leaves
+    module _ (busy : is_idle r.stage ≡ false) {q : ℕ} (on_q : q ≡ queue_of process r.call) {o : PackedStep} {slots' : List ℕ}
+        (stepped : StepsIn a.width a.size (get_or run.words q fresh_held) slots q r.stage o slots') {z : HeldProcess}
+        (left : process_in z ≡ process_after run.steps (get_or run.resets q 0) r o.next) where
+      abbrev after : List ℕ → ℕ → ℕ → Bench
+      after resets entries gone = record {
+        words = set run.words q o.word;
+        resets = resets;
+        processes = set run.processes process z;
+        entries = entries;
+        steps = run.steps + 1;
+        gone = gone;
+      }
+
+      stays : is_idle z.stage ≡ false
+          → Walked (sizes_in a) a.calls state.entries closing (calls_of file a) schedule log₀ (state_in a.size state slots₀) (i + 1)
+          (after run.resets run.entries run.gone) slots' log
+      stays half = more
+          (way_on (sizes_in a) given.fit closing (calls_of file a) calls_are run slots log come.0.sound process below_P r ready_is busy q on_q o
+          slots' stepped come.0.becomes.whole z left half)
+
+      ends : {m : Told} {log' : List ℕ}
+          → Tells process run.steps run.entries r (record_in run q) (get_or run.words q fresh_held) (get_or run.resets q 0) o log m log'
+          → Walked (sizes_in a) a.calls state.entries closing (calls_of file a) schedule log₀ (state_in a.size state slots₀) (i + 1)
+          (after (set run.resets q m.resets) (run.entries + m.more) (run.gone + m.gone)) slots' log'
+      ends {m = m} {log' = log'} told = more
+          (way_ends (sizes_in a) given.fit closing (calls_of file a) calls_are run slots log come.0.sound process below_P r ready_is busy q on_q o
+          slots' stepped come.0.becomes.whole z left m log' told)
 
 pub loop-i-init : goal.loop-i-init
 loop-i-init c = (
@@ -75,115 +120,109 @@ loop-i-init c = (
 
 pub overflow_add-run : goal.overflow_add-run
 overflow_add-run c =
-    omega (arith, steps_few c.args.file.now c.args.shape c.args.schedule.now c.args.closing c.args.state c.args.slots.now c.args.log.now c.requires c.loop-i.run c.loop-i.slots c.loop-i.log c.loop-i.i c.loop-i.invariant.3 c.loop-i-test.true, c.loop-i.invariant.2, one_most c.args.closing)
+    omega (arith, steps_few c.args.file.now _ _ c.requires c.loop-i.invariant.3 c.loop-i-test.true, c.loop-i.invariant.2, one_most c.args.closing)
 
 pub loop-i-preserved-then-is_idle : goal.loop-i-preserved-then-is_idle
 loop-i-preserved-then-is_idle c = (
-  omega (arith, here c.args.file.now c.args.shape c.args.schedule.now c.args.closing c.args.state c.args.slots.now c.args.log.now c.requires c.loop-i.run c.loop-i.slots c.loop-i.log c.loop-i.i c.loop-i.invariant.3 c.loop-i-test.true),
+  omega (arith, here c.args.file.now _ _ c.requires c.loop-i.invariant.3 c.loop-i-test.true),
   c.loop-i.invariant.1,
   c.loop-i.invariant.2,
-  more c.args.file.now c.args.shape c.args.schedule.now c.args.closing c.args.state c.args.slots.now c.args.log.now c.requires c.loop-i.run c.loop-i.slots c.loop-i.log c.loop-i.i c.loop-i.invariant.3 c.loop-i-test.true _ _ _
-      (way_idle (sizes_in c.args.shape) c.requires.fit c.args.closing (calls_of c.args.file.now c.args.shape) (calls_are c.args.file.now c.args.shape c.args.schedule.now c.args.closing c.args.state c.args.slots.now c.args.log.now c.requires c.loop-i.run c.loop-i.slots c.loop-i.log c.loop-i.i c.loop-i.invariant.3 c.loop-i-test.true)
-      c.loop-i.run c.loop-i.slots c.loop-i.log c.loop-i.invariant.3.0.sound (get_or c.args.schedule.now c.loop-i.i 0) (below_P c.args.file.now c.args.shape c.args.schedule.now c.args.closing c.args.state c.args.slots.now c.args.log.now c.requires c.loop-i.run c.loop-i.slots c.loop-i.log c.loop-i.i c.loop-i.invariant.3 c.loop-i-test.true)
-      (process_in c.ready-of.result) c.ready-of.ensures
-      (sym c.is_idle.ensures ∙ c.if-is_idle.true) _ c.loop-i.invariant.2 c.loop-i.invariant.3.0.becomes.whole),
+  waits c.args.file.now _ _ c.requires c.loop-i.invariant.3 c.loop-i-test.true c.ready-of.ensures
+      (sym c.is_idle.ensures ∙ c.if-is_idle.true) c.loop-i.invariant.2,
 )
 
 pub bounds-run-on : goal.bounds-run-on
 bounds-run-on c =
-    q_small c.args.file.now c.args.shape c.args.schedule.now c.args.closing c.args.state c.args.slots.now c.args.log.now c.requires c.loop-i.run c.loop-i.slots c.loop-i.log c.loop-i.i c.loop-i.invariant.3 c.loop-i-test.true (process_in c.ready-of.result) c.ready-of.ensures (sym c.is_idle.ensures ∙ c.if-is_idle.false) _ c.queue_of-q.ensures
+    q_small c.args.file.now _ _ c.requires c.loop-i.invariant.3 c.loop-i-test.true c.ready-of.ensures
+    (sym c.is_idle.ensures ∙ c.if-is_idle.false) c.queue_of-q.ensures
 
 pub bounds-run-on-in-loop-i : goal.bounds-run-on-in-loop-i
 bounds-run-on-in-loop-i c =
-    q_small c.args.file.now c.args.shape c.args.schedule.now c.args.closing c.args.state c.args.slots.now c.args.log.now c.requires c.loop-i.run c.loop-i.slots c.loop-i.log c.loop-i.i c.loop-i.invariant.3 c.loop-i-test.true (process_in c.ready-of.result) c.ready-of.ensures (sym c.is_idle.ensures ∙ c.if-is_idle.false) _ c.queue_of-q.ensures
+    q_small c.args.file.now _ _ c.requires c.loop-i.invariant.3 c.loop-i-test.true c.ready-of.ensures
+    (sym c.is_idle.ensures ∙ c.if-is_idle.false) c.queue_of-q.ensures
 
 pub bounds-run-on-in-loop-i-2 : goal.bounds-run-on-in-loop-i-2
 bounds-run-on-in-loop-i-2 c =
-    q_small c.args.file.now c.args.shape c.args.schedule.now c.args.closing c.args.state c.args.slots.now c.args.log.now c.requires c.loop-i.run c.loop-i.slots c.loop-i.log c.loop-i.i c.loop-i.invariant.3 c.loop-i-test.true (process_in c.ready-of.result) c.ready-of.ensures (sym c.is_idle.ensures ∙ c.if-is_idle.false) _ c.queue_of-q.ensures
+    q_small c.args.file.now _ _ c.requires c.loop-i.invariant.3 c.loop-i-test.true c.ready-of.ensures
+    (sym c.is_idle.ensures ∙ c.if-is_idle.false) c.queue_of-q.ensures
 
 pub bounds-run-on-in-loop-i-3 : goal.bounds-run-on-in-loop-i-3
 bounds-run-on-in-loop-i-3 c =
-    q_small c.args.file.now c.args.shape c.args.schedule.now c.args.closing c.args.state c.args.slots.now c.args.log.now c.requires c.loop-i.run c.loop-i.slots c.loop-i.log c.loop-i.i c.loop-i.invariant.3 c.loop-i-test.true (process_in c.ready-of.result) c.ready-of.ensures (sym c.is_idle.ensures ∙ c.if-is_idle.false) _ c.queue_of-q.ensures
+    q_small c.args.file.now _ _ c.requires c.loop-i.invariant.3 c.loop-i-test.true c.ready-of.ensures
+    (sym c.is_idle.ensures ∙ c.if-is_idle.false) c.queue_of-q.ensures
 
 pub bounds-run-on-in-loop-i-4 : goal.bounds-run-on-in-loop-i-4
 bounds-run-on-in-loop-i-4 c =
-    q_small c.args.file.now c.args.shape c.args.schedule.now c.args.closing c.args.state c.args.slots.now c.args.log.now c.requires c.loop-i.run c.loop-i.slots c.loop-i.log c.loop-i.i c.loop-i.invariant.3 c.loop-i-test.true (process_in c.ready-of.result) c.ready-of.ensures (sym c.is_idle.ensures ∙ c.if-is_idle.false) _ c.queue_of-q.ensures
+    q_small c.args.file.now _ _ c.requires c.loop-i.invariant.3 c.loop-i-test.true c.ready-of.ensures
+    (sym c.is_idle.ensures ∙ c.if-is_idle.false) c.queue_of-q.ensures
 
 pub step_slots-stepped-requires : goal.step_slots-stepped-requires
-step_slots-stepped-requires c =
-    (c.loop-i.invariant.1, q_small c.args.file.now c.args.shape c.args.schedule.now c.args.closing c.args.state c.args.slots.now c.args.log.now c.requires c.loop-i.run c.loop-i.slots c.loop-i.log c.loop-i.i c.loop-i.invariant.3 c.loop-i-test.true (process_in c.ready-of.result) c.ready-of.ensures (sym c.is_idle.ensures ∙ c.if-is_idle.false) _ c.queue_of-q.ensures, c.requires.fit.size.1)
+step_slots-stepped-requires c = (
+  c.loop-i.invariant.1,
+  q_small c.args.file.now _ _ c.requires c.loop-i.invariant.3 c.loop-i-test.true c.ready-of.ensures
+      (sym c.is_idle.ensures ∙ c.if-is_idle.false) c.queue_of-q.ensures,
+  c.requires.fit.size.1,
+)
 
 pub bounds-run-at-then-not-is_idle : goal.bounds-run-at-then-not-is_idle
-bounds-run-at-then-not-is_idle c =
-    p_small c.args.file.now c.args.shape c.args.schedule.now c.args.closing c.args.state c.args.slots.now c.args.log.now c.requires c.loop-i.run c.loop-i.slots c.loop-i.log c.loop-i.i c.loop-i.invariant.3 c.loop-i-test.true
+bounds-run-at-then-not-is_idle c = p_small c.args.file.now _ _ c.requires c.loop-i.invariant.3 c.loop-i-test.true
 
 pub bounds-run-at-in-loop-i : goal.bounds-run-at-in-loop-i
-bounds-run-at-in-loop-i c =
-    p_small c.args.file.now c.args.shape c.args.schedule.now c.args.closing c.args.state c.args.slots.now c.args.log.now c.requires c.loop-i.run c.loop-i.slots c.loop-i.log c.loop-i.i c.loop-i.invariant.3 c.loop-i-test.true
+bounds-run-at-in-loop-i c = p_small c.args.file.now _ _ c.requires c.loop-i.invariant.3 c.loop-i-test.true
 
 pub loop-i-preserved-then-not-is_idle : goal.loop-i-preserved-then-not-is_idle
 loop-i-preserved-then-not-is_idle c = (
-  omega (arith, here c.args.file.now c.args.shape c.args.schedule.now c.args.closing c.args.state c.args.slots.now c.args.log.now c.requires c.loop-i.run c.loop-i.slots c.loop-i.log c.loop-i.i c.loop-i.invariant.3 c.loop-i-test.true),
+  omega (arith, here c.args.file.now _ _ c.requires c.loop-i.invariant.3 c.loop-i-test.true),
   omega (arith, c.step_slots-stepped.auto.slots, c.loop-i.invariant.1),
   c.loop-i.invariant.2,
-  more c.args.file.now c.args.shape c.args.schedule.now c.args.closing c.args.state c.args.slots.now c.args.log.now c.requires c.loop-i.run c.loop-i.slots c.loop-i.log c.loop-i.i c.loop-i.invariant.3 c.loop-i-test.true _ _ _
-      (way_on (sizes_in c.args.shape) c.requires.fit c.args.closing (calls_of c.args.file.now c.args.shape) (calls_are c.args.file.now c.args.shape c.args.schedule.now c.args.closing c.args.state c.args.slots.now c.args.log.now c.requires c.loop-i.run c.loop-i.slots c.loop-i.log c.loop-i.i c.loop-i.invariant.3 c.loop-i-test.true)
-      c.loop-i.run c.loop-i.slots c.loop-i.log c.loop-i.invariant.3.0.sound (get_or c.args.schedule.now c.loop-i.i 0) (below_P c.args.file.now c.args.shape c.args.schedule.now c.args.closing c.args.state c.args.slots.now c.args.log.now c.requires c.loop-i.run c.loop-i.slots c.loop-i.log c.loop-i.i c.loop-i.invariant.3 c.loop-i-test.true)
-      (process_in c.ready-of.result) c.ready-of.ensures
-      (sym c.is_idle.ensures ∙ c.if-is_idle.false) _ c.queue_of-q.ensures c.step_slots-stepped.result _ c.step_slots-stepped.ensures
-      c.loop-i.invariant.3.0.becomes.whole c.process_after-then.result c.process_after-then.ensures
-      (sym c.is_idle-in-loop-i.ensures ∙ c.if-not-is_idle.true)),
+  stays c.args.file.now _ _ c.requires c.loop-i.invariant.3 c.loop-i-test.true c.ready-of.ensures (sym c.is_idle.ensures ∙ c.if-is_idle.false)
+      c.queue_of-q.ensures c.step_slots-stepped.ensures c.process_after-then.ensures (sym c.is_idle-in-loop-i.ensures ∙ c.if-not-is_idle.true),
 )
 
 pub tell-told-requires : goal.tell-told-requires
 tell-told-requires c =
-    let few = steps_few c.args.file.now c.args.shape c.args.schedule.now c.args.closing c.args.state c.args.slots.now c.args.log.now c.requires c.loop-i.run c.loop-i.slots c.loop-i.log c.loop-i.i c.loop-i.invariant.3 c.loop-i-test.true in
+    let few = steps_few c.args.file.now _ _ c.requires c.loop-i.invariant.3 c.loop-i-test.true in
+    let p = get_or c.args.schedule.now c.loop-i.i 0 in
+    let l = c.loop-i.run in
     let counted = c.loop-i.invariant.3.0.counted in
-    let small = q_small c.args.file.now c.args.shape c.args.schedule.now c.args.closing c.args.state c.args.slots.now c.args.log.now c.requires c.loop-i.run c.loop-i.slots c.loop-i.log c.loop-i.i c.loop-i.invariant.3 c.loop-i-test.true (process_in c.ready-of.result) c.ready-of.ensures (sym c.is_idle.ensures ∙ c.if-is_idle.false) _ c.queue_of-q.ensures in (
+    let small = q_small c.args.file.now _ _ c.requires c.loop-i.invariant.3 c.loop-i-test.true c.ready-of.ensures
+    (sym c.is_idle.ensures ∙ c.if-is_idle.false) c.queue_of-q.ensures in (
       omega (arith, few),
       omega (
         arith,
         few,
-        held_b2 c.loop-i.run c.loop-i.run.entries counted (get_or c.args.schedule.now c.loop-i.i 0) (p_small c.args.file.now c.args.shape c.args.schedule.now c.args.closing c.args.state c.args.slots.now c.args.log.now c.requires c.loop-i.run c.loop-i.slots c.loop-i.log c.loop-i.i c.loop-i.invariant.3 c.loop-i-test.true),
+        held_b2 l l.entries counted p (p_small c.args.file.now _ _ c.requires c.loop-i.invariant.3 c.loop-i-test.true),
         ap (λ (x : Process). x.b2) c.ready-of.ensures,
-        same_b2 (calls_of c.args.file.now c.args.shape) c.loop-i.run.steps (record_in c.loop-i.run (get_or c.args.schedule.now c.loop-i.i 0)) c.args.closing,
+        same_b2 (calls_of c.args.file.now c.args.shape) l.steps (record_in l p) c.args.closing,
       ),
-      omega (arith, few, held_b2 c.loop-i.run c.loop-i.run.entries counted c.queue_of-q.result small),
-      omega (arith, few, held_resets c.loop-i.run c.loop-i.run.entries counted c.queue_of-q.result small),
+      omega (arith, few, held_b2 l l.entries counted c.queue_of-q.result small),
+      omega (arith, few, held_resets l l.entries counted c.queue_of-q.result small),
     )
 
 pub overflow_add-run-in-loop-i-2 : goal.overflow_add-run-in-loop-i-2
 overflow_add-run-in-loop-i-2 c =
-    omega (
-      arith,
-      steps_few c.args.file.now c.args.shape c.args.schedule.now c.args.closing c.args.state c.args.slots.now c.args.log.now c.requires c.loop-i.run c.loop-i.slots c.loop-i.log c.loop-i.i c.loop-i.invariant.3 c.loop-i-test.true,
-      c.loop-i.invariant.3.0.counted.logged,
-      c.tell-told.ensures.more,
-      entries_few c.tell-told.ensures.over,
-    )
+    let few = steps_few c.args.file.now _ _ c.requires c.loop-i.invariant.3 c.loop-i-test.true in
+    let told = c.tell-told.ensures in
+    omega (arith, few, c.loop-i.invariant.3.0.counted.logged, told.more, entries_few told.over)
 
 pub overflow_add-run-in-loop-i-3 : goal.overflow_add-run-in-loop-i-3
 overflow_add-run-in-loop-i-3 c =
+    let l = c.loop-i.run in
     omega (
       arith,
-      steps_few c.args.file.now c.args.shape c.args.schedule.now c.args.closing c.args.state c.args.slots.now c.args.log.now c.requires c.loop-i.run c.loop-i.slots c.loop-i.log c.loop-i.i c.loop-i.invariant.3 c.loop-i-test.true,
+      steps_few c.args.file.now _ _ c.requires c.loop-i.invariant.3 c.loop-i-test.true,
       c.loop-i.invariant.3.0.counted.gone,
       c.tell-told.ensures.gone,
-      gone_most (process_in c.ready-of.result) (get_or c.loop-i.run.resets c.queue_of-q.result 0) c.step_slots-stepped.result.next,
+      gone_most (process_in c.ready-of.result) (get_or l.resets c.queue_of-q.result 0) c.step_slots-stepped.result.next,
     )
 
 pub loop-i-preserved : goal.loop-i-preserved
 loop-i-preserved c = (
-  omega (arith, here c.args.file.now c.args.shape c.args.schedule.now c.args.closing c.args.state c.args.slots.now c.args.log.now c.requires c.loop-i.run c.loop-i.slots c.loop-i.log c.loop-i.i c.loop-i.invariant.3 c.loop-i-test.true),
+  omega (arith, here c.args.file.now _ _ c.requires c.loop-i.invariant.3 c.loop-i-test.true),
   omega (arith, c.step_slots-stepped.auto.slots, c.loop-i.invariant.1),
   c.loop-i.invariant.2,
-  more c.args.file.now c.args.shape c.args.schedule.now c.args.closing c.args.state c.args.slots.now c.args.log.now c.requires c.loop-i.run c.loop-i.slots c.loop-i.log c.loop-i.i c.loop-i.invariant.3 c.loop-i-test.true _ _ _
-      (way_ends (sizes_in c.args.shape) c.requires.fit c.args.closing (calls_of c.args.file.now c.args.shape) (calls_are c.args.file.now c.args.shape c.args.schedule.now c.args.closing c.args.state c.args.slots.now c.args.log.now c.requires c.loop-i.run c.loop-i.slots c.loop-i.log c.loop-i.i c.loop-i.invariant.3 c.loop-i-test.true)
-      c.loop-i.run c.loop-i.slots c.loop-i.log c.loop-i.invariant.3.0.sound (get_or c.args.schedule.now c.loop-i.i 0) (below_P c.args.file.now c.args.shape c.args.schedule.now c.args.closing c.args.state c.args.slots.now c.args.log.now c.requires c.loop-i.run c.loop-i.slots c.loop-i.log c.loop-i.i c.loop-i.invariant.3 c.loop-i-test.true)
-      (process_in c.ready-of.result) c.ready-of.ensures
-      (sym c.is_idle.ensures ∙ c.if-is_idle.false) _ c.queue_of-q.ensures c.step_slots-stepped.result _ c.step_slots-stepped.ensures
-      c.loop-i.invariant.3.0.becomes.whole c.process_after-then.result c.process_after-then.ensures
-      c.tell-told.result _ c.tell-told.ensures),
+  ends c.args.file.now _ _ c.requires c.loop-i.invariant.3 c.loop-i-test.true c.ready-of.ensures (sym c.is_idle.ensures ∙ c.if-is_idle.false)
+      c.queue_of-q.ensures c.step_slots-stepped.ensures c.process_after-then.ensures c.tell-told.ensures,
 )
 
 pub returns : goal.returns
