@@ -2,13 +2,12 @@
 use Prim.Native.Nat.{ℕ, zero, suc, ◌+◌, ◌/◌, ◌%◌, ◌≤◌, ◌<◌}
 use mathlib.Core.Path.{◌≡◌, refl, ◌∙◌}
 use mathlib.Core.List.{List, [], ◌∷◌, ◌++◌}
-use native.Mathlib.Numerals.{add-one}
 use native.Mathlib.Omega.{arith}
 use native.Mathlib.Nat.{div-add-mod'}
 use borrow.Author.Tests.{le-leb, lt-leb, leb-true}
 use lib.Dec.{leb}
-use lib.ListN.{length, get_or, set, take, drop, length-append, length-drop, length-set}
-use lib.Seq.{paste, paste-suc, take-length, get_or-take, get_or-drop, length-take-le, drop-append-add, take-append_seam}
+use lib.ListN.{length, get_or, take, drop, length-append, length-drop}
+use lib.Seq.{get_or-take, get_or-drop, length-take-le, drop-append-add, take-append_seam}
 use Rattle.base.proofs.Cases.{either_way}
 use Rattle.base.specs.Bytes.{Byte, Two, Bytes, part, joined, number_at, pair, put_at}
 
@@ -64,10 +63,6 @@ pair_bytes x h = one_more (x / 256) (x % 256 ∷ []) (high_fits x h) (one_more (
 pub put_none : (at : ℕ) (bytes buffer : List ℕ) → length buffer < at + length bytes → buffer ≡ put_at at bytes buffer
 put_none at bytes buffer h = rw (lt-leb (at + length bytes) (length buffer) h)
 
-pub put_whole : (at : ℕ) (bytes buffer : List ℕ) (n : ℕ) (l : List ℕ) → l ≡ paste buffer at bytes n → n ≡ length bytes
-    → at + length bytes ≤ length buffer → l ≡ put_at at bytes buffer
-put_whole at bytes buffer n l e k h = e ∙ rw (k, le-leb (at + length bytes) (length buffer) h, take-length bytes)
-
 -- where everything up to a place is known, what is put there follows it
 pub put_after : (front bytes rest : List ℕ) → length bytes ≤ length rest
     → put_at (length front) bytes (front ++ rest) ≡ front ++ bytes ++ drop (length bytes) rest
@@ -87,14 +82,3 @@ put_same_length at bytes buffer =
       length-drop (at + length bytes) buffer,
     ))
     (λ e. refl)
-
--- a loop that puts them in turn: one more
-pub put_more : (buffer₀ buffer bytes : List ℕ) (at i : ℕ) → at + i < length buffer₀ → i < length bytes
-    → (i ≤ length bytes) × (buffer ≡ paste buffer₀ at bytes i) × (length buffer ≡ length buffer₀)
-    → (i + 1 ≤ length bytes) × (set buffer (at + i) (get_or bytes i 0) ≡ paste buffer₀ at bytes (i + 1))
-    × (length (set buffer (at + i) (get_or bytes i 0)) ≡ length buffer₀)
-put_more buffer₀ buffer bytes at i room below h = (
-  omega arith,
-  rw (h.1, add-one) (paste-suc buffer₀ at bytes i 0 room below),
-  simp length-set h.2,
-)

@@ -3,5 +3,4 @@ pub mod Cases
 pub mod Bools
 pub mod Lists
 pub mod Bytes
-pub mod Tests
 pub mod Settled

@@ -30,6 +30,6 @@ number_at bytes at = joined (byte_at bytes at) (byte_at bytes (at + 1))
 abbrev pub pair : ℕ → List ℕ
 pair x = x / 256 ∷ x % 256 ∷ []
 
--- a buffer with bytes put in at a place; where there is no room for all of them, as it was
-abbrev pub put_at : ℕ → List ℕ → List ℕ → List ℕ
-put_at at bytes buffer = cond (leb (at + length bytes) (length buffer)) (take at buffer ++ bytes ++ drop (at + length bytes) buffer) buffer
+-- a buffer with items put in at a place; where there is no room for all of them, as it was
+abbrev pub put_at : {A : Type 0} → ℕ → List A → List A → List A
+put_at at items buffer = cond (leb (at + length items) (length buffer)) (take at buffer ++ items ++ drop (at + length items) buffer) buffer

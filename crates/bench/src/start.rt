@@ -17,7 +17,7 @@ fn share(file: &[u8], processes: u8, p: u8) -> u16
     ensures { (result ≡ get_or (first_lengths file.now processes) p 0) × (result ≤ 255) }
 {
     if p < processes {
-        base::u8_to_u16(runfile::length_at(file, p))
+        u16::from(runfile::length_at(file, p))
     } else {
         0
     }

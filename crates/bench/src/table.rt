@@ -17,7 +17,7 @@ fn put_row(table: &mut [u16], from: usize, word: Word, part: &[u16])
     table[from] = word.bottom;
     table[from + 1] = word.top;
     table[from + 2] = word.tag;
-    base::put_numbers(table, from + 3, part);
+    base::put(table, from + 3, part);
 }
 
 // The rest of the table is 0: the slots at and above C, and the queues that no process owns.

@@ -35,8 +35,8 @@ fn get(rt: &HostRuntime) -> Got {
     let mut one = [0u8; 1];
     let got = stdio::read(rt, &mut rt.stdin(), &mut one);
     Got {
-        failed: got.failed,
-        more: got.length != 0,
+        failed: got.is_none(),
+        more: got == Some(1),
         byte: one[0],
     }
 }

@@ -60,7 +60,7 @@ pub fn left(log: &[u8], queue: u8, nodes: &mut [u16; 256]) -> Remaining
     let lo = ends % UPPER;
     let hi = ends / UPPER;
     let count = hi - lo;
-    base::put_numbers(nodes, 0, &row[lo..hi]);
+    base::put(nodes, 0, &row[lo..hi]);
     Remaining {
         number: 0,
         count: count as u16,

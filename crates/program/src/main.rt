@@ -43,9 +43,7 @@ fn run_file(rt: &impl Print, file: &[u8], left: bool) {
 // Runs the file on standard input.
 fn run(rt: &HostRuntime, left: bool) {
     let mut file = [0u8; FILE_BYTES];
-    let input = stdio::read(rt, &mut rt.stdin(), &mut file);
-    let n = input.length;
-    if !input.failed {
+    if let Some(n) = stdio::read(rt, &mut rt.stdin(), &mut file) {
         run_file(rt, &file[..n], left);
     }
 }
@@ -53,9 +51,7 @@ fn run(rt: &HostRuntime, left: bool) {
 // Judges the log on standard input.
 fn judge(rt: &HostRuntime) {
     let mut log = [0u8; JUDGED_BYTES];
-    let input = stdio::read(rt, &mut rt.stdin(), &mut log);
-    let n = input.length;
-    if !input.failed {
+    if let Some(n) = stdio::read(rt, &mut rt.stdin(), &mut log) {
         let verdict = judge::judge(&log[..n]);
         print::verdict(rt, verdict.number, verdict.entry);
     }

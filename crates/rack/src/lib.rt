@@ -1,11 +1,13 @@
 // A rack of files: many run files in one call, each run and judged as it would be singly.
 #![tactic(auto)]
 
-ghost use Rattle.std.specs.Prelude.{◌≡◌, ◌%◌};
+ghost use Rattle.std.specs.Prelude.{◌≡◌, ◌%◌, get_or};
 ghost use Rattle.base.specs.Bytes.{put_at};
 ghost use Rattle.racks.specs.Rack.{judged as judged_of, rack_of, reply_bytes};
-ghost use Rattle.racks.specs.Rack.{Racked};
+ghost use Rattle.racks.specs.Rack.{Racked, number_of};
 ghost use Rattle.racks.specs.Inner.Walk.{is_rack, RunsOne, Checked, RunsAll};
+
+pub use racks::Refusal;
 
 // A reply has number, three counts of two bytes, and the judge's number.
 const REPLY_LENGTH: usize = 8;
@@ -18,15 +20,13 @@ fn is_rack(files: &[u8]) -> bool
         return false;
     }
     let count = base::number_at(files, 0);
-    let mut at: usize = 2;
-    let mut i: u16 = 0;
-    while i < count {
-        let end = 2 + base::u16_to_usize(base::number_at(files, at));
+    let mut at = 2;
+    for _ in 0..count {
+        let end = 2 + usize::from(base::number_at(files, at));
         if files.len() - at < end {
             return false;
         }
-        at = at + end;
-        i = i + 1;
+        at += end;
     }
     at == files.len()
 }
@@ -36,24 +36,17 @@ fn judged(number: u16, log: &[u8]) -> u8
     ensures { result ≡ judged_of number log.now }
 {
     if number == 0 {
-        let verdict = judge::judge(log);
-        return verdict.number;
+        judge::judge(log).number
+    } else {
+        0
     }
-    0
 }
 
-// Puts a reply's eight bytes at a place.
-fn put_reply(
-    replies: &mut [u8],
-    place: usize,
-    number: u16,
-    entries: u16,
-    steps: u16,
-    gone: u16,
-    verdict: u8,
-)
-    ensures { replies.new ≡ put_at place (reply_bytes (number % 256) entries steps gone verdict) replies.old }
+// Puts a reply's eight bytes at a place: those of a run's report, and the judge's number.
+fn put_reply(replies: &mut [u8], place: usize, report: [u16; 4], verdict: u8)
+    ensures { replies.new ≡ put_at place (reply_bytes (get_or report 0 0 % 256) (get_or report 1 0) (get_or report 2 0) (get_or report 3 0) verdict) replies.old }
 {
+    let [number, entries, steps, gone] = report;
     let bytes = [
         base::low(number),
         base::high(entries),
@@ -76,9 +69,7 @@ fn one(file: &[u8], log: &mut [u8], replies: &mut [u8], place: usize)
     let written = bench::run_len(file, log, &mut report, &mut table);
     let number = report[0];
     let verdict = judged(number, &log[..written]);
-    put_reply(
-        replies, place, number, report[1], report[2], report[3], verdict,
-    )
+    put_reply(replies, place, report, verdict)
 }
 
 // The files of a rack from the front.
@@ -87,32 +78,29 @@ fn run_all(files: &[u8], log: &mut [u8], replies: &mut [u8])
     ensures { RunsAll files.now log.old replies.old log.new replies.new }
 {
     let count = base::number_at(files, 0);
-    let mut at: usize = 2;
-    let mut place: usize = 0;
-    let mut i: u16 = 0;
-    while i < count {
-        let length = base::u16_to_usize(base::number_at(files, at));
+    let mut at = 2;
+    let mut place = 0;
+    for _ in 0..count {
+        let length = usize::from(base::number_at(files, at));
         let from = at + 2;
         let end = from + length;
         one(&files[from..end], log, replies, place);
         at = end;
-        place = place + REPLY_LENGTH;
-        i = i + 1;
+        place += REPLY_LENGTH;
     }
 }
 
-// Runs and judges every file of a rack. Gives 0; 21 where the bytes are no rack; 22 where a reply for each file has no room. Both refusals are found
-// before any file is run.
-pub fn rack(files: &[u8], log: &mut [u8], replies: &mut [u8]) -> u8
-    ensures { Racked files.now log.old replies.old result log.new replies.new }
+// Runs and judges every file of a rack. Both refusals are found before any file is run.
+pub fn rack(files: &[u8], log: &mut [u8], replies: &mut [u8]) -> Result<(), Refusal>
+    ensures { Racked files.now log.old replies.old (number_of result) log.new replies.new }
 {
     if !is_rack(files) {
-        return 21;
+        return Err(Refusal::NoRack);
     }
-    let count = base::u16_to_usize(base::number_at(files, 0));
+    let count = usize::from(base::number_at(files, 0));
     if replies.len() < REPLY_LENGTH * count {
-        return 22;
+        return Err(Refusal::NoRoom);
     }
     run_all(files, log, replies);
-    0
+    Ok(())
 }

@@ -37,9 +37,8 @@ fn print_replies(rt: &impl Print, replies: &[u8], count: u16) {
 fn run_rack(rt: &impl Print, files: &[u8]) {
     let mut log = [0u8; call_log::LONGEST_LOG];
     let mut replies = [0u8; REPLY_BYTES * MOST_FILES];
-    let refused = rack::rack(files, &mut log, &mut replies);
-    if refused != 0 {
-        last(rt, b"refused ", refused as u16);
+    if let Err(refusal) = rack::rack(files, &mut log, &mut replies) {
+        last(rt, b"refused ", u16::from(u8::from(refusal)));
         return;
     }
     print_replies(rt, &replies, base::number_at(files, 0));
@@ -47,11 +46,9 @@ fn run_rack(rt: &impl Print, files: &[u8]) {
 
 fn main(rt: HostRuntime) {
     let mut files = [0u8; RACK_BYTES + 1];
-    let input = stdio::read(&rt, &mut rt.stdin(), &mut files);
-    let n = input.length;
-    if input.failed {
+    let Some(n) = stdio::read(&rt, &mut rt.stdin(), &mut files) else {
         return;
-    }
+    };
     if RACK_BYTES < n {
         text(&rt, b"longer than 65536 bytes\n");
         return;

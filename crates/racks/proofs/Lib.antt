@@ -10,3 +10,5 @@ pub mod RunLaws
 pub mod AnswerLaws
 -- A rack written and split again, and split and written again.
 pub mod RoundLaws
+-- Two answers that one promise allows are equal.
+pub mod Settled

@@ -1,8 +1,10 @@
 -- A rack of files: a two-byte count, then each file after its two-byte length; its replies, and what it leaves in the log buffer.
-use Rattle.std.specs.Prelude.{ℕ, zero, suc, ◌+◌, ◌*◌, cond, ltb, eqb, List, [], ◌∷◌, ◌++◌, length, drop, ◌≡◌}
+use Rattle.std.specs.Prelude.{ℕ, zero, suc, ◌+◌, ◌*◌, cond, ltb, eqb, List, [], ◌∷◌, ◌++◌, length, drop, ◌≡◌, Result, Ok, Err}
 use Rattle.base.specs.Bytes.{number_at, pair, part}
 use Rattle.rules.specs.{Judge.judge_of, declared.Verdict.Verdict}
 use Rattle.runs.specs.{Promise.buffer_of, Run.Outcome, Run.run_of}
+use Rattle.racks.specs.declared.Refusal.{Refusal}
+use Rattle.racks.specs.declared.Refusal.TheVariants.{NoRack, NoRoom}
 
 -- no rack, or its files
 pub data Split : Type 0 where
@@ -80,6 +82,16 @@ answered fs log replies = record {
   log = log_after (length log) fs log;
   replies = replies_of (length log) fs ++ drop (reply_length * length fs) replies;
 }
+
+-- the number of a refusal: 21 for no rack, 22 for too short a reply buffer
+abbrev pub refusal_number : Refusal → ℕ
+refusal_number NoRack = 21
+refusal_number NoRoom = 22
+
+-- that of what `rack` gives back: 0 where it refuses nothing
+abbrev pub number_of : {A : Type 0} → Result A Refusal → ℕ
+number_of (Ok value) = 0
+number_of (Err refused) = refusal_number refused
 
 -- 21 for no rack, then 22 for too short a reply buffer
 abbrev pub answer_to : Split → List ℕ → List ℕ → Answer

@@ -5,7 +5,7 @@ ghost use Rattle.runfile.specs.File.{call_place, call_of, coded_at, call_at};
 
 use crate::places::call_place;
 use crate::{Call, Coded};
-use base::{byte_at, joined, number_at, u8_to_u16};
+use base::{byte_at, joined, number_at};
 
 // The codes of a call.
 const PUSH: u8 = 1;
@@ -25,7 +25,7 @@ struct CallBytes {
 pub fn call_of(processes: u8, code: u8, argument: u16) -> Coded
     ensures { result ≡ call_of processes code argument }
 {
-    let queues = u8_to_u16(processes);
+    let queues = u16::from(processes);
     match code {
         PUSH => if argument == 0 {
             Coded::Wrong(5)

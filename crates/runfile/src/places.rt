@@ -5,7 +5,7 @@ ghost use Rattle.runfile.specs.File.{share_place, length_at, calls_before, call_
 ghost use Rattle.runfile.specs.Inner.Counts.{shape_in};
 
 use crate::Shape;
-use base::{byte_at, number_at, u8_to_u16, u8_to_usize, u16_to_usize};
+use base::{byte_at, number_at};
 
 // Where W, C and P stand.
 pub const WIDTH_PLACE: usize = 1;
@@ -25,7 +25,7 @@ impl Shape {
     pub fn schedule_end(self) -> usize
         ensures { (result ≡ step_place self.processes self.calls self.steps) × (result < 1100000) }
     {
-        self.schedule_place() + u16_to_usize(self.steps)
+        self.schedule_place() + usize::from(self.steps)
     }
 }
 
@@ -33,7 +33,7 @@ impl Shape {
 pub fn share_place(p: u8) -> usize
     ensures { (result ≡ share_place p) × (result < 1000) }
 {
-    4 + u8_to_usize(p)
+    4 + usize::from(p)
 }
 
 // The script length of process p.
@@ -50,7 +50,7 @@ pub fn calls_before(file: &[u8], p: u8) -> u16
     let mut calls: u16 = 0;
     let mut i: u8 = 0;
     while i < p {
-        let share = u8_to_u16(length_at(file, i));
+        let share = u16::from(length_at(file, i));
         calls = calls + share;
         i = i + 1;
     }
@@ -61,7 +61,7 @@ pub fn calls_before(file: &[u8], p: u8) -> u16
 pub fn call_place(processes: u8, k: u16) -> usize
     ensures { (result ≡ call_place processes k) × (result < 900000) }
 {
-    6 + u8_to_usize(processes) + 3 * u16_to_usize(k)
+    6 + usize::from(processes) + 3 * usize::from(k)
 }
 
 // The number of calls, and below it the length of the schedule, as the file gives them.

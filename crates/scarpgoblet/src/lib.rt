@@ -25,8 +25,10 @@ pub extern "C" fn scarpgoblet_run(
 pub extern "C" fn scarpgoblet_rack(files: &[u8], log: &mut [u8], replies: &mut [u8]) -> u32
     ensures { Racked files.now log.old replies.old result log.new replies.new }
 {
-    let number = rack::rack(files, log, replies);
-    number as u32
+    match rack::rack(files, log, replies) {
+        Ok(()) => 0,
+        Err(refusal) => u32::from(u8::from(refusal)),
+    }
 }
 
 // The judge's number.

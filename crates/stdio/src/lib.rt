@@ -2,65 +2,30 @@
 // fails is passed over.
 #![tactic(auto)]
 
-ghost use Rattle.std.specs.Prelude.{◌≡◌, ◌+◌, ◌≤◌, length, IsTrue};
+ghost use Rattle.std.specs.Prelude.{IfSome};
 ghost use Rattle.io.specs.Counts.{IsPrefixLen};
 
-use std::io;
 use std::io::Read;
 
 mod why; // why a read failed
 
-// What was read: so many bytes, or that a read failed.
-#[derive(Clone, Copy)]
-pub struct Input {
-    pub length: usize,
-    pub failed: bool,
-}
-
-// One read, to the place n of the buffer and after it. No byte is the end of the input. A read that fails says why.
-fn read_on<R: Read>(rt: &impl Eprint, from: &mut R, buffer: &mut [u8], n: usize) -> Input
-    requires { n ≤ length buffer.old }
-    ensures { n + result.length ≤ length buffer.old }
+// Reads until the buffer is full or the input ends, and answers how many bytes that is. A read that fails is not the end of the input: it says why,
+// and there is no answer.
+pub fn read<R: Read>(rt: &impl Eprint, from: &mut R, buffer: &mut [u8]) -> Option<usize>
+    ensures { IfSome result (λ n. IsPrefixLen n buffer.new) }
 {
-    let rest = &mut buffer[n..];
-    match from.read(rest) {
-        Ok(length) => Input {
-            length: length,
-            failed: false,
-        },
-        Err(error) => {
-            why::fail(rt, "scarpgoblet: standard input", error);
-            Input {
-                length: 0,
-                failed: true,
+    let mut n = 0;
+    while n < buffer.len() {
+        match from.read(&mut buffer[n..]) {
+            Ok(0) => break,
+            Ok(more) => n += more,
+            Err(error) => {
+                why::fail(rt, "scarpgoblet: standard input", error);
+                return None;
             }
         }
     }
-}
-
-// Reads until the buffer is full or the input ends. A read that fails is not the end of the input: it says why.
-pub fn read<R: Read>(rt: &impl Eprint, from: &mut R, buffer: &mut [u8]) -> Input
-    ensures prefix { IsPrefixLen result.length buffer.new }
-    ensures failed { IsTrue result.failed → result.length ≡ 0 }
-{
-    let mut n: usize = 0;
-    while n < buffer.len() {
-        let got = read_on(rt, from, buffer, n);
-        if got.failed {
-            return Input {
-                length: 0,
-                failed: true,
-            };
-        }
-        if got.length == 0 {
-            break;
-        }
-        n = n + got.length;
-    }
-    Input {
-        length: n,
-        failed: false,
-    }
+    Some(n)
 }
 
 pub fn text(rt: &impl Print, bytes: &[u8]) {

@@ -13,7 +13,7 @@ fn number(rt: &impl Print, word: &[u8], n: u16) {
 fn each(rt: &impl Print, bytes: &[u8]) {
     let mut i: usize = 0;
     while i < bytes.len() {
-        number(rt, b" ", base::u8_to_u16(bytes[i]));
+        number(rt, b" ", u16::from(bytes[i]));
         i = i + 1;
     }
 }

@@ -4,8 +4,6 @@
 ghost use Rattle.std.specs.Prelude.{◌≡◌};
 ghost use Rattle.words.specs.Words.{blank, capital as capital_of, spelled, counted, word_at, fed, start, words_of, small, numbers};
 
-use base::{u8_to_u32, u8_to_u64};
-
 // What stands for a word that is no number from 0 to 65,535.
 const NO_NUMBER: u32 = 65536;
 
@@ -44,7 +42,7 @@ fn spell(name: u64, byte: u8) -> u64
     ensures { result ≡ spelled name byte }
 {
     if name < 0x10000000000 {
-        256 * name + u8_to_u64(capital(byte))
+        256 * name + u64::from(capital(byte))
     } else {
         name
     }
@@ -64,7 +62,7 @@ fn count(n: u32, byte: u8) -> u32
         return NO_NUMBER;
     }
     let digit = byte - b'0';
-    let longer = 10 * n + u8_to_u32(digit);
+    let longer = 10 * n + u32::from(digit);
     if 65535 < longer { NO_NUMBER } else { longer }
 }
 

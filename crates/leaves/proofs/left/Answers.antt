@@ -28,6 +28,6 @@ returns c =
     let row = c.replayed-ends.new.row in
     let part = part_is row lo hi z.low in
     let size : length (take (hi - lo) (drop lo row)) ≡ hi - lo = ap length part ∙ length-slice lo hi row (omega (arith, z.high, z.long)) in
-    rw (c.put_numbers.ensures ∙ put_after [] (take (hi - lo) (drop lo row)) (replicate {A = ℕ} 256 0) (omega (arith, size, z.high)))
+    rw (c.put.ensures ∙ put_after [] (take (hi - lo) (drop lo row)) (replicate {A = ℕ} 256 0) (omega (arith, size, z.high)))
     (leaves_some a.log.now v.result v.ensures free a.queue (take (hi - lo) (drop lo row)) (hi - lo) (part ∙ z.holds) (sym size)
     (omega (arith, size, z.high)))

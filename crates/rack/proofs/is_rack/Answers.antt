@@ -4,11 +4,11 @@ use Rattle.racks.proofs.SplitLaws.{walked_stops, walked_next}
 use Rattle.rack.proofs.is_rack.Goals as goal
 
 pub returns-then-files-at : goal.returns-then-files-at
-returns-then-files-at c = let l = c.loop-i in
-    walked_stops c.args.files.now _ l.at l.i c.u16_to_usize-end.result l.invariant
-    c.loop-i-test.true (c.u16_to_usize-end.ensures.0 ∙ c.number_at.ensures) c.if-files-at.true
+returns-then-files-at c = let l = c.loop in
+    walked_stops c.args.files.now _ l.at l.counter c.from-end.result l.invariant
+    c.loop-test.true (c.from-end.ensures ∙ c.number_at.ensures) c.if-files-at.true
 
-pub loop-i-preserved : goal.loop-i-preserved
-loop-i-preserved c = let l = c.loop-i in
-    walked_next c.args.files.now _ l.at l.i c.u16_to_usize-end.result l.invariant
-    c.loop-i-test.true (c.u16_to_usize-end.ensures.0 ∙ c.number_at.ensures) c.if-files-at.false
+pub loop-preserved : goal.loop-preserved
+loop-preserved c = let l = c.loop in
+    walked_next c.args.files.now _ l.at l.counter c.from-end.result l.invariant
+    c.loop-test.true (c.from-end.ensures ∙ c.number_at.ensures) c.if-files-at.false

@@ -1,10 +1,6 @@
--- `is_rack` meets its contract: from each place that the walk comes to, what is left splits if the whole does.
-use Prim.Native.Nat.{◌-◌}
+-- From each place that the walk comes to, what is left splits if the whole does.
 use Rattle.racks.proofs.SplitLaws.{Walked}
 use Rattle.rack.proofs.is_rack.Given as goal
 
-abbrev pub invariant-loop-i : goal.invariant-loop-i
-invariant-loop-i l = Walked l.files l.count l.at l.i
-
-abbrev pub decreases-loop-i : goal.decreases-loop-i
-decreases-loop-i l = l.count - l.i
+abbrev pub invariant-loop : goal.invariant-loop
+invariant-loop l = Walked l.files l.count l.at l.counter
