@@ -11,6 +11,13 @@ pub struct Word {
     pub tag: u16,
 }
 
+// What a queue is made for: W, the tag's width in bits, and C, the number of its slots.
+#[derive(Clone, Copy)]
+pub struct Sizes {
+    pub width: u8,
+    pub size: u8,
+}
+
 // A process is idle or at one of fourteen stages, with the numbers that it has loaded so far.
 #[derive(Clone, Copy)]
 pub enum Stage {
