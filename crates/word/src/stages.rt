@@ -8,7 +8,7 @@ use crate::Stage;
 pub fn below(b: u16) -> u16
     ensures { result ≡ b - 1 }
 {
-    if b == 0 { 0 } else { b - 1 }
+    b.saturating_sub(1)
 }
 
 impl Stage {
@@ -38,25 +38,32 @@ impl Stage {
     pub fn is_idle(self) -> bool
         ensures { result ≡ is_idle self }
     {
-        self.row_number() == 0
+        matches!(self, Stage::Idle)
     }
 
     pub fn at_t1(self) -> bool
         ensures { result ≡ at_t1 self }
     {
-        self.row_number() == 4
+        matches!(self, Stage::T1)
     }
 
     pub fn at_b2(self) -> bool
         ensures { result ≡ at_b2 self }
     {
-        self.row_number() == 9
+        matches!(self, Stage::B2 { .. })
     }
 
     pub fn past_b2(self) -> bool
         ensures { result ≡ past_b2 self }
     {
-        9 < self.row_number()
+        matches!(
+            self,
+            Stage::B3 { .. }
+                | Stage::B4 { .. }
+                | Stage::B5 { .. }
+                | Stage::B6 { .. }
+                | Stage::B7 { .. }
+        )
     }
 
     // In a bottom pop past B2 with b−1 = t.
@@ -64,11 +71,11 @@ impl Stage {
         ensures { result ≡ pops_slot self t }
     {
         match self {
-            Stage::B3 { b } => below(b) == t,
-            Stage::B4 { b, .. } => below(b) == t,
-            Stage::B5 { b, .. } => below(b) == t,
-            Stage::B6 { b, .. } => below(b) == t,
-            Stage::B7 { b, .. } => below(b) == t,
+            Stage::B3 { b }
+            | Stage::B4 { b, .. }
+            | Stage::B5 { b, .. }
+            | Stage::B6 { b, .. }
+            | Stage::B7 { b, .. } => below(b) == t,
             _ => false,
         }
     }
