@@ -12,14 +12,11 @@ use Rattle.base.specs.Lists.{list_of}
 use Rattle.call_log.specs.Encode.{entry_bytes}
 use Rattle.base.proofs.Lists.{list_of-length, list_of_get_d, rows_apart}
 use Rattle.call_log.specs.declared.Entry.{Entry}
-use Rattle.steps.specs.Step.{stored}
-use Rattle.steps.specs.Packed.{unpacked, StepPacked}
+use Rattle.steps.specs.Step.{stored, Stepped}
+use Rattle.steps.specs.Packed.{unpacked, StepPacked, PackedStep}
 use Rattle.word.specs.declared.Stage.{Stage}
-use Rattle.steps.specs.declared.Stepped.{Stepped}
-use Rattle.steps.specs.declared.PackedStep.{PackedStep}
 use Rattle.steps.specs.declared.PackedWord.{PackedWord}
-use Rattle.steps.specs.declared.Store.{Store}
-use Rattle.steps.specs.declared.Store.TheVariants as store
+use Rattle.steps.proofs.StepLaws.{stored_length}
 use Rattle.records.specs.Inner.Records.{process_in, slots_place}
 use Rattle.bench.specs.Inner.Layout.{fresh_held, idle_held, queue_in, record_in, bench_in, slots_of, slots_in, StepsIn, put_entries}
 use Rattle.runs.specs.State.{Process, Queue, fresh, nobody, queue_at, process_at}
@@ -114,10 +111,6 @@ module _ (C q : ℕ) (flat row : List ℕ) (whole : length flat ≡ 512) (small 
 
 -- the program's step on its part of the row
 module _ (W C : ℕ) (w : PackedWord) (flat : List ℕ) (q : ℕ) (z : Stage) (r : PackedStep) where
-  stored_length : (xs : List ℕ) (o : Store) → length (stored xs o) ≡ length xs
-  stored_length xs store.Nothing = refl
-  stored_length xs (store.Slot at node) = length-set xs at node
-
   on_place : (row : List ℕ) → length flat ≡ 512 → q < 8 → C ≤ 64 → StepPacked W C w (take (C * q + C - C * q) (drop (C * q) flat)) z r row
       → StepsIn W C w flat q z r (put_mid (C * q) (C * q + C - C * q) flat row)
   on_place row whole h small d =

@@ -11,12 +11,10 @@ use Rattle.word.specs.Stages.{is_idle}
 use Rattle.word.specs.declared.Word.{Word}
 use Rattle.word.specs.declared.Stage.{Stage}
 use Rattle.word.specs.declared.Stage.TheVariants.{Idle, P1, P2, P3, T1, T2, T3, T4, B1, B2, B3, B4, B5, B6, B7}
-use Rattle.steps.specs.Step.{same_age, row_of, loaded, loaded_slot, in_sixteen, stepped_on, stage_after}
-use Rattle.steps.specs.Packed.{unpacked, unpacked_step}
+use Rattle.steps.specs.Step.{same_age, row_of, loaded, loaded_slot, in_sixteen, stepped_on, stage_after, Stepped}
+use Rattle.steps.specs.Packed.{unpacked, unpacked_step, PackedStep}
 use Rattle.steps.specs.declared.Next.{Next}
 use Rattle.steps.specs.declared.Next.TheVariants.{Going, Done, Node, Nil, Lost, Full}
-use Rattle.steps.specs.declared.Stepped.{Stepped}
-use Rattle.steps.specs.declared.PackedStep.{PackedStep}
 use Rattle.steps.proofs.StepLaws.{sixteen_in}
 use Rattle.word.specs.Inner.InRange.{InRange}
 use Rattle.runfile.specs.declared.Call.{Call}

@@ -38,7 +38,7 @@ pub(crate) fn fill(
         let word = words[on];
         let from = slots_place(size, q);
         let to = from + size as usize;
-        put_row(table, TABLE_ROW * on, word.unpacked(), &slots[from..to]);
+        put_row(table, TABLE_ROW * on, word.into(), &slots[from..to]);
         q = q + 1;
     }
 }

@@ -23,7 +23,7 @@ pub(crate) fn step_slots(
     let stage = of.stage;
     let from = slots_place(size, q);
     let to = from + size as usize;
-    queue::step_packed(width, size, word, &mut slots[from..to], stage)
+    queue::step_packed(word::Sizes { width, size }, word, &mut slots[from..to], stage)
 }
 
 // Puts what a step ended after the n entries of the log, and gives how many entries that is.

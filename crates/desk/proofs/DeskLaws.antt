@@ -2,6 +2,7 @@
 use mathlib.Core.Path.{◌≡◌, refl, sym, ap, ◌∙◌}
 use mathlib.Core.Bool.{Bool, true, false, cond, true≢false}
 use mathlib.Core.List.{List}
+use Rattle.std.specs.Prelude.{Ok, Err}
 use Prim.Native.Nat.{ℕ, ◌^◌, ◌≤◌, ◌<◌}
 use native.Mathlib.Decide.{dec_lt}
 use native.Mathlib.Omega.{arith}
@@ -9,39 +10,36 @@ use lib.ListN.{length}
 use Rattle.word.specs.Range.{in_range}
 use Rattle.word.specs.Inner.InRange.{SizesIn, WordIn, StageIn, InRange}
 use Rattle.word.proofs.RangeLaws.{in_range_lem, range_in}
-use Rattle.steps.specs.Step.{row_of, loaded_slot, loaded, stored, stepped_on, StepOn}
+use Rattle.steps.specs.Step.{row_of, loaded_slot, loaded, stored, stepped_on, StepOn, Stepped as Step}
 use Rattle.steps.proofs.StepLaws.{sixteen_in}
 use Rattle.desk.specs.Refusals.{OfB, OfAge, From, Refuses, width_high, size_low, size_high, slots_not_C, bottom_above, top_above, b_above}
 use Rattle.desk.specs.Refusals.{t_above, word_tag, stage_tag, push_b, take_t, pop_b}
-use Rattle.desk.specs.Desk.{number_of, stage_of, result_of, desk_answer, desk_word, desk_slots, AtDesk}
+use Rattle.desk.specs.Desk.{Answer, number_of, stage_of, result_of, desk_answer, desk_word, desk_slots, AtDesk}
 use Rattle.word.specs.declared.Word.{Word}
 use Rattle.word.specs.declared.Stage.{Stage}
 use Rattle.word.specs.declared.Stage.TheVariants.{Idle, P1, P2, P3, T1, T2, T3, T4, B1, B2, B3, B4, B5, B6, B7}
 use Rattle.steps.specs.declared.Next.TheVariants.{Going}
-use Rattle.steps.specs.declared.Stepped.{Stepped as Step}
-use Rattle.desk.specs.declared.Answer.{Answer}
-use Rattle.desk.specs.declared.Answer.TheVariants.{Stepped, Refused}
 
 module _ (W C : ℕ) (w : Word) (slots : List ℕ) (s : Stage) where
   -- in range the desk does the table's row
   pub row_done : in_range W C (length slots) w s ≡ true →
       let r = row_of W C w (loaded slots (loaded_slot s)) s in
-      (desk_answer W C w slots s ≡ Stepped r.next) × (desk_word W C w slots s ≡ r.word) × (desk_slots W C w slots s ≡ stored slots r.store)
+      (desk_answer W C w slots s ≡ Ok r.next) × (desk_word W C w slots s ≡ r.word) × (desk_slots W C w slots s ≡ stored slots r.store)
   row_done e = rw e (refl, refl, refl)
 
   -- a refusal gives the stage back as lent, and keeps the word and the slots
   pub refused_keeps : in_range W C (length slots) w s ≡ false →
-      (desk_answer W C w slots s ≡ Refused s) × (desk_word W C w slots s ≡ w) × (desk_slots W C w slots s ≡ slots)
+      (desk_answer W C w slots s ≡ Err s) × (desk_word W C w slots s ≡ w) × (desk_slots W C w slots s ≡ slots)
   refused_keeps e = rw e (refl, refl, refl)
 
   -- the promise of a step in range, from the one of `step_on`
   pub at_desk : (after : List ℕ) (r : Step) (answer : Answer) → in_range W C (length slots) w s ≡ true → StepOn W C w slots s r after
-      → answer ≡ Stepped r.next
+      → answer ≡ Ok r.next
       → AtDesk W C w slots s answer r.word after
   at_desk after r answer e h d =
       let o = stepped_on W C w slots s in
       let k : r ≡ o = h.stepped ∙ sixteen_in W C (length slots) w (loaded slots (loaded_slot s)) s (in_range_lem W C (length slots) w s e) in
-      let a : answer ≡ Stepped o.next = d ∙ ap (λ (z : Step). Stepped z.next) k in
+      let a : answer ≡ Ok o.next = d ∙ ap (λ (z : Step). Ok z.next) k in
       record {
         answered = rw e a;
         numbered = rw e (ap number_of a);
@@ -52,7 +50,7 @@ module _ (W C : ℕ) (w : Word) (slots : List ℕ) (s : Stage) where
       }
 
   -- and that of a refusal
-  pub at_desk_refused : (answer : Answer) → in_range W C (length slots) w s ≡ false → answer ≡ Refused s → AtDesk W C w slots s answer w slots
+  pub at_desk_refused : (answer : Answer) → in_range W C (length slots) w s ≡ false → answer ≡ Err s → AtDesk W C w slots s answer w slots
   at_desk_refused answer e d = record {
     answered = rw e d;
     numbered = rw e (ap number_of d);
@@ -64,7 +62,7 @@ module _ (W C : ℕ) (w : Word) (slots : List ℕ) (s : Stage) where
 
 -- an idle stage is a step that alters nothing
 pub idle_keeps : (W C : ℕ) (w : Word) (slots : List ℕ) → in_range W C (length slots) w Idle ≡ true →
-    (desk_answer W C w slots Idle ≡ Stepped (Going Idle)) × (desk_word W C w slots Idle ≡ w) × (desk_slots W C w slots Idle ≡ slots)
+    (desk_answer W C w slots Idle ≡ Ok (Going Idle)) × (desk_word W C w slots Idle ≡ w) × (desk_slots W C w slots Idle ≡ slots)
 idle_keeps W C w slots e = row_done W C w slots Idle e
 
 -- none of the list is so of a stage in range
@@ -198,7 +196,7 @@ module _ (W C : ℕ) (w : Word) (slots : List ℕ) (s : Stage) (answer : Answer)
       not_10 q = omega arith
 
   -- and then nothing is altered, and the stage is given back as lent
-  pub refuses_keeps : Refuses W C (length slots) w s → (answer ≡ Refused s) × (word ≡ w) × (after ≡ slots)
+  pub refuses_keeps : Refuses W C (length slots) w s → (answer ≡ Err s) × (word ≡ w) × (after ≡ slots)
   refuses_keeps r =
       let k = refused_keeps W C w slots s (refuses_out W C (length slots) w s r) in
       (h.answered ∙ k.0, h.altered ∙ k.1, h.kept ∙ k.2)

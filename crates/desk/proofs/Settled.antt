@@ -5,8 +5,7 @@ use Prim.Native.Nat.{ℕ}
 use Rattle.base.proofs.Settled.{one_value}
 use Rattle.word.specs.declared.Word.{Word}
 use Rattle.word.specs.declared.Stage.{Stage}
-use Rattle.desk.specs.declared.Answer.{Answer}
-use Rattle.desk.specs.Desk.{AtDesk}
+use Rattle.desk.specs.Desk.{Answer, AtDesk}
 
 -- of the desk's steps, the word lent or by value
 pub at_desk : (W C : ℕ) (w : Word) (slots : List ℕ) (s : Stage) (a a' : Answer) (v v' : Word) (l l' : List ℕ) →

@@ -1,18 +1,21 @@
 -- The desk: what it gives back for a stage lent with a word and slots, and the word and the slots after it. The step is the table's.
-use Rattle.std.specs.Prelude.{ℕ, cond, List, [], length, ◌≡◌}
+use Rattle.std.specs.Prelude.{ℕ, cond, List, [], length, Result, Ok, Err, ◌≡◌}
 use Rattle.steps.specs.{Step.stored, Step.stepped_on, Step.stage_after, Step.result_of as next_result, declared.Next.Next, declared.Next.TheVariants.Going}
 use Rattle.word.specs.{Range.in_range, declared.Word.Word, declared.Stage.Stage}
-use Rattle.desk.specs.{declared.Answer.Answer, declared.Answer.TheVariants.Stepped, declared.Answer.TheVariants.Refused}
+
+-- what follows the step, or, of a refusal, the stage as it was lent
+abbrev pub Answer : Type 0
+Answer = Result Next Stage
 
 -- document 01's number for an answer
 abbrev pub number_of : Answer → ℕ
-number_of (Stepped next) = 0
-number_of (Refused s) = 10
+number_of (Ok next) = 0
+number_of (Err s) = 10
 
 -- what an answer says, in the words of the table; a refusal leaves the process at the stage that was lent
 abbrev pub next_in : Answer → Next
-next_in (Stepped next) = next
-next_in (Refused s) = Going s
+next_in (Ok next) = next
+next_in (Err s) = Going s
 
 -- where the process stands after it; and of a call that ended, its result and its node as in the log
 abbrev pub stage_of : Answer → Stage
@@ -23,7 +26,7 @@ result_of a = next_result (next_in a)
 
 -- the table's step where it is in range; else a refusal, which alters nothing and gives the stage back as lent
 abbrev pub desk_answer : ℕ → ℕ → Word → List ℕ → Stage → Answer
-desk_answer W C w slots s = cond (in_range W C (length slots) w s) (Stepped (stepped_on W C w slots s).next) (Refused s)
+desk_answer W C w slots s = cond (in_range W C (length slots) w s) (Ok (stepped_on W C w slots s).next) (Err s)
 
 abbrev pub desk_word : ℕ → ℕ → Word → List ℕ → Stage → Word
 desk_word W C w slots s = cond (in_range W C (length slots) w s) (stepped_on W C w slots s).word w

@@ -1,7 +1,6 @@
 -- Steps at the desk, computed: K1 by hand, K4's tag that goes round and K5's that does not, tags of 16 bits, and each refusal of document 01's list.
-use Rattle.std.specs.Prelude.{ℕ, List, [], ◌∷◌, map, replicate, ◌≡◌, refl}
-use Rattle.desk.specs.{declared.Answer.Answer, declared.Answer.TheVariants.Stepped, declared.Answer.TheVariants.Refused}
-use Rattle.desk.specs.Desk.{number_of, stage_of, result_of, desk_answer, desk_word, desk_slots}
+use Rattle.std.specs.Prelude.{ℕ, List, [], ◌∷◌, map, replicate, Ok, Err, ◌≡◌, refl}
+use Rattle.desk.specs.Desk.{Answer, number_of, stage_of, result_of, desk_answer, desk_word, desk_slots}
 use Rattle.steps.specs.{declared.Next.Next, declared.Next.TheVariants.Going, declared.Next.TheVariants.Done, declared.Next.TheVariants.Node}
 use Rattle.steps.specs.declared.Next.TheVariants.{Nil, Lost, Full}
 use Rattle.word.specs.{Worked.word, declared.Word.Word, declared.Stage.Stage}
@@ -17,13 +16,13 @@ gives W C w slots s due = ((desk_answer W C w slots s, desk_word W C w slots s, 
 
 -- it steps, and leaves a word and slots; it steps and alters nothing; and it refuses, and alters nothing
 abbrev step : ℕ → ℕ → Word → List ℕ → Stage → Next → Word → List ℕ → After × After
-step W C w slots s next w' slots' = gives W C w slots s (Stepped next, w', slots')
+step W C w slots s next w' slots' = gives W C w slots s (Ok next, w', slots')
 
 abbrev keeps : ℕ → ℕ → Word → List ℕ → Stage → Next → After × After
 keeps W C w slots s next = step W C w slots s next w slots
 
 abbrev refused : ℕ → ℕ → Word → List ℕ → Stage → After × After
-refused W C w slots s = gives W C w slots s (Refused s, w, slots)
+refused W C w slots s = gives W C w slots s (Err s, w, slots)
 
 -- four slots with a node in slot 0
 abbrev slots : ℕ → List ℕ
@@ -81,7 +80,7 @@ worked : map (λ c. c.0) cases ≡ map (λ c. c.1) cases
 worked = refl
 
 -- the paper's numbers and values for an answer of each kind
-numbered : (map number_of (Stepped (Node 7) ∷ Refused T1 ∷ []) ≡ 0 ∷ 10 ∷ [])
-    × (map stage_of (Stepped (Going (P3 0)) ∷ Stepped (Node 7) ∷ Refused (B2 0) ∷ []) ≡ P3 0 ∷ Idle ∷ B2 0 ∷ [])
-    × (map (λ (n : Next). result_of (Stepped n)) (Node 7 ∷ Nil ∷ Lost ∷ Full ∷ Done ∷ []) ≡ (1 ∷ 7 ∷ []) ∷ (0 ∷ 0 ∷ []) ∷ (3 ∷ 0 ∷ []) ∷ (2 ∷ []) ∷ (1 ∷ []) ∷ [])
+numbered : (map number_of (Ok (Node 7) ∷ Err T1 ∷ []) ≡ 0 ∷ 10 ∷ [])
+    × (map stage_of (Ok (Going (P3 0)) ∷ Ok (Node 7) ∷ Err (B2 0) ∷ []) ≡ P3 0 ∷ Idle ∷ B2 0 ∷ [])
+    × (map (λ (n : Next). result_of (Ok n)) (Node 7 ∷ Nil ∷ Lost ∷ Full ∷ Done ∷ []) ≡ (1 ∷ 7 ∷ []) ∷ (0 ∷ 0 ∷ []) ∷ (3 ∷ 0 ∷ []) ∷ (2 ∷ []) ∷ (1 ∷ []) ∷ [])
 numbered = (refl, refl, refl)

@@ -5,65 +5,46 @@ ghost use Rattle.steps.specs.Step.{StepOn};
 ghost use Rattle.desk.specs.Desk.{AtDesk};
 
 use steps::{Next, PackedWord, Stepped};
-use word::{Stage, Word};
+use word::{Sizes, Stage, Word};
 
-// What the desk gives back: what follows the table's step, the next stage or the result of the call; or a refusal, where nothing was done
-// and the stage is given back as lent.
-#[derive(Clone, Copy)]
-pub enum Answer {
-    Stepped(Next),
-    Refused(Stage),
-}
-
-// The desk after a step by value: the word, and the answer.
+// The desk after a step by value: the word, and what follows the table's step, the next stage or the result of the call; or a refusal, where
+// nothing was done and the stage is given back as lent.
 #[derive(Clone, Copy)]
 pub struct Desk {
     pub word: Word,
-    pub answer: Answer,
+    pub answer: Result<Next, Stage>,
 }
 
 // The table's step on a word of three numbers: packed, stepped and unpacked.
-fn step_on(width: u8, size: u8, word: Word, slots: &mut [u16], stage: Stage) -> Stepped
-    ensures { StepOn width size word slots.old stage result slots.new }
+fn step_on(sizes: Sizes, word: Word, slots: &mut [u16], stage: Stage) -> Stepped
+    ensures { StepOn sizes.width sizes.size word slots.old stage result slots.new }
 {
-    let stepped = queue::step_packed(width, size, PackedWord::of(word), slots, stage);
-    stepped.unpacked()
+    let stepped = queue::step_packed(sizes, PackedWord::from(word), slots, stage);
+    Stepped::from(stepped)
 }
 
 // The table's step for one stage where it is in range, or a refusal, with the word given back instead of altered.
-pub fn step_by_value(width: u8, size: u8, word: Word, slots: &mut [u16], stage: Stage) -> Desk
-    ensures { AtDesk width size word slots.old stage result.answer result.word slots.new }
+pub fn step_by_value(sizes: Sizes, word: Word, slots: &mut [u16], stage: Stage) -> Desk
+    ensures { AtDesk sizes.width sizes.size word slots.old stage result.answer result.word slots.new }
 {
-    if range::in_range(width, size, slots.len(), word, stage) {
-        let stepped = step_on(width, size, word, slots, stage);
-        let next = stepped.next;
-        let word = stepped.word;
-        Desk {
+    if !range::in_range(sizes, slots.len(), word, stage) {
+        return Desk {
             word,
-            answer: Answer::Stepped(next),
-        }
-    } else {
-        Desk {
-            word,
-            answer: Answer::Refused(stage),
-        }
+            answer: Err(stage),
+        };
+    }
+    let stepped = step_on(sizes, word, slots, stage);
+    Desk {
+        word: stepped.word,
+        answer: Ok(stepped.next),
     }
 }
 
 // The same with the word lent: it is altered where it stands.
-pub fn step(width: u8, size: u8, word: &mut Word, slots: &mut [u16], stage: Stage) -> Answer
-    ensures { AtDesk width size word.old slots.old stage result word.new slots.new }
+pub fn step(sizes: Sizes, word: &mut Word, slots: &mut [u16], stage: Stage) -> Result<Next, Stage>
+    ensures { AtDesk sizes.width sizes.size word.old slots.old stage result word.new slots.new }
 {
-    let desk = step_by_value(width, size, *word, slots, stage);
+    let desk = step_by_value(sizes, *word, slots, stage);
     *word = desk.word;
     desk.answer
-}
-
-// The desk's step for a program that keeps the word by value: the word is lent to `step`.
-pub fn step_lending(width: u8, size: u8, word: Word, slots: &mut [u16], stage: Stage) -> Desk
-    ensures { AtDesk width size word slots.old stage result.answer result.word slots.new }
-{
-    let mut lent = word;
-    let answer = step(width, size, &mut lent, slots, stage);
-    Desk { word: lent, answer }
 }

@@ -1,5 +1,4 @@
 // What the desk prints: after a step a line with the word, the slots, and the next stage or the result; of a line that is not run, why.
-use desk::Answer;
 use lines::{SizesWhy, Why};
 use stdio::{each, number, text};
 use steps::Next;
@@ -90,10 +89,10 @@ fn follows(rt: &impl Print, of: Next) {
 }
 
 // What follows the step, or that there was none.
-pub(crate) fn answer(rt: &impl Print, of: Answer) {
+pub(crate) fn answer(rt: &impl Print, of: Result<Next, Stage>) {
     match of {
-        Answer::Stepped(next) => follows(rt, next),
-        Answer::Refused(lent) => {
+        Ok(next) => follows(rt, next),
+        Err(lent) => {
             text(rt, b" refused 10 ");
             stage(rt, lent);
         }

@@ -74,9 +74,8 @@ fn read_line(rt: &HostRuntime, buffer: &mut [u8]) -> usize {
 
 // Does the step of a stage and prints what came of it.
 fn step(rt: &impl Print, width: u8, size: u8, word: Word, slots: &mut [u16], stage: Stage) -> Word {
-    let after = desk::step_lending(width, size, word, slots, stage);
-    let word = after.word;
-    let answer = after.answer;
+    let mut word = word;
+    let answer = desk::step(word::Sizes { width, size }, &mut word, slots, stage);
     answers::queue(rt, word, slots);
     answers::answer(rt, answer);
     word

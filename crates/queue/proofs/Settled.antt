@@ -2,9 +2,8 @@
 use Rattle.std.proofs.Common.{◌≡◌, ℕ, List}
 use Rattle.base.proofs.Settled.{one_value}
 use Rattle.word.specs.declared.Stage.{Stage}
-use Rattle.steps.specs.Packed.{StepPacked}
+use Rattle.steps.specs.Packed.{StepPacked, PackedStep}
 use Rattle.steps.specs.declared.PackedWord.{PackedWord}
-use Rattle.steps.specs.declared.PackedStep.{PackedStep}
 
 pub step_packed : (W C : ℕ) (w : PackedWord) (slots : List ℕ) (s : Stage) (r r' : PackedStep) (l l' : List ℕ) →
     StepPacked W C w slots s r l → StepPacked W C w slots s r' l' → (r ≡ r') × (l ≡ l')

@@ -8,61 +8,47 @@ ghost use Rattle.steps.specs.Packed.{StepPacked};
 
 mod rows; // the rows of the table
 
-use steps::{Load, PackedStep, PackedWord, Store};
-use word::Stage;
+use steps::{PackedStep, PackedWord, Store};
 use word::stages::below;
+use word::{Sizes, Stage};
 
 // The slot that a stage loads; only T3 and B3 load one.
-fn loaded_slot(stage: Stage) -> Load
+fn loaded_slot(stage: Stage) -> Option<u16>
     ensures { result ≡ loaded_slot stage }
 {
     match stage {
-        Stage::T3 { t, .. } => Load::Slot(t),
-        Stage::B3 { b } => Load::Slot(below(b)),
-        _ => Load::Nothing,
+        Stage::T3 { t, .. } => Some(t),
+        Stage::B3 { b } => Some(below(b)),
+        _ => None,
     }
 }
 
-fn load_from(slots: &[u16], stage: Stage) -> u16
-    ensures { result ≡ loaded slots.now (loaded_slot stage) }
+// What the slot holds; 0 where no slot is loaded, or there is no such slot.
+fn load_from(slots: &[u16], from: Option<u16>) -> u16
+    ensures { result ≡ loaded slots.now from }
 {
-    let from = loaded_slot(stage);
-    match from {
-        Load::Nothing => 0,
-        Load::Slot(at) => {
-            let at = at as usize;
-            if at < slots.len() { slots[at] } else { 0 }
-        }
-    }
+    from.and_then(|at| slots.get(usize::from(at)).copied())
+        .unwrap_or(0)
 }
 
-fn store_in(slots: &mut [u16], made: Store)
+fn store_in(slots: &mut [u16], made: Option<Store>)
     ensures { slots.new ≡ stored slots.old made }
 {
-    match made {
-        Store::Nothing => {}
-        Store::Slot(at, node) => {
-            let at = at as usize;
-            if at < slots.len() {
-                slots[at] = node;
-            }
+    // By index: a slice's `get_mut` promises nothing of what the slice holds after it.
+    if let Some(Store { at, node }) = made {
+        let at = usize::from(at);
+        if at < slots.len() {
+            slots[at] = node;
         }
     }
 }
 
 // The step of a stage on its queue's slots: the slot that the stage touches is loaded or stored, and no other.
-pub fn step_packed(
-    width: u8,
-    size: u8,
-    word: PackedWord,
-    slots: &mut [u16],
-    stage: Stage,
-) -> PackedStep
-    ensures { StepPacked width size word slots.old stage result slots.new }
+pub fn step_packed(sizes: Sizes, word: PackedWord, slots: &mut [u16], stage: Stage) -> PackedStep
+    ensures { StepPacked sizes.width sizes.size word slots.old stage result slots.new }
 {
-    let loaded = load_from(slots, stage);
-    let stepped = rows::row(width, size, word, loaded, stage);
-    let made = stepped.store;
-    store_in(slots, made);
+    let loaded = load_from(slots, loaded_slot(stage));
+    let stepped = rows::row(sizes, word, loaded, stage);
+    store_in(slots, stepped.store);
     stepped
 }

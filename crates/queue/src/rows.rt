@@ -4,17 +4,17 @@ ghost use Rattle.std.specs.Prelude.{◌≡◌};
 ghost use Rattle.steps.specs.Packed.{unpacked, unpacked_step};
 ghost use Rattle.steps.specs.Step.{leaves as leaves_of, resets, same_age, row_of, in_sixteen};
 
-use steps::{Next, PackedAge, PackedStep, PackedWord, Store};
-use word::Stage;
+use steps::{Next, PackedAge, PackedStep, PackedWord, Step, Store};
 use word::stages::below;
+use word::{Sizes, Stage};
 
 // A step that leaves this word, stores in no slot and is no reset.
 fn leaves(word: PackedWord, next: Next) -> PackedStep
     ensures { unpacked_step result ≡ in_sixteen (leaves_of (unpacked word) next) }
 {
-    PackedStep {
+    Step {
         word,
-        store: Store::Nothing,
+        store: None,
         reset: false,
         next,
     }
@@ -25,12 +25,12 @@ fn reset(width: u8, word: PackedWord, t: u16, g: u16, next: Next) -> PackedStep
     ensures { unpacked_step result ≡ in_sixteen (resets width (unpacked word) g next) }
 {
     let loaded = PackedAge::of(t, g);
-    PackedStep {
+    Step {
         word: PackedWord {
             age: loaded.next_age(width),
             ..word
         },
-        store: Store::Nothing,
+        store: None,
         reset: true,
         next,
     }
@@ -50,7 +50,7 @@ fn p1(size: u8, word: PackedWord, node: u16) -> PackedStep
     ensures { unpacked_step result ≡ in_sixteen (row_of 0 size (unpacked word) 0 (Stage.P1 node)) }
 {
     let b = word.bottom;
-    if b == size as u16 {
+    if b == u16::from(size) {
         leaves(word, Next::Full)
     } else {
         leaves(word, Next::Going(Stage::P2 { node, b }))
@@ -61,9 +61,9 @@ fn p1(size: u8, word: PackedWord, node: u16) -> PackedStep
 fn p2(word: PackedWord, node: u16, b: u16) -> PackedStep
     ensures { unpacked_step result ≡ in_sixteen (row_of 0 0 (unpacked word) 0 (Stage.P2 node b)) }
 {
-    PackedStep {
+    Step {
         word,
-        store: Store::Slot(b, node),
+        store: Some(Store { at: b, node }),
         reset: false,
         next: Next::Going(Stage::P3 { b }),
     }
@@ -73,7 +73,7 @@ fn p2(word: PackedWord, node: u16, b: u16) -> PackedStep
 fn p3(word: PackedWord, b: u16) -> PackedStep
     ensures { unpacked_step result ≡ in_sixteen (row_of 0 0 (unpacked word) 0 (Stage.P3 b)) }
 {
-    let bottom = std::num::wrapping_add_u16(b, 1);
+    let bottom = b.wrapping_add(1);
     leaves(PackedWord { bottom, ..word }, Next::Done)
 }
 
@@ -111,7 +111,7 @@ fn t4(word: PackedWord, t: u16, g: u16, b: u16, x: u16) -> PackedStep
     ensures { unpacked_step result ≡ in_sixteen (row_of 0 0 (unpacked word) 0 (Stage.T4 t g b x)) }
 {
     if same_age(word, t, g) {
-        let top = std::num::wrapping_add_u16(t, 1);
+        let top = t.wrapping_add(1);
         let age = PackedAge::of(top, g);
         leaves(PackedWord { age, ..word }, Next::Node(x))
     } else {
@@ -191,12 +191,12 @@ fn b7(width: u8, word: PackedWord, t: u16, g: u16) -> PackedStep
 }
 
 // The row of a stage.
-pub(crate) fn row(width: u8, size: u8, word: PackedWord, loaded: u16, stage: Stage) -> PackedStep
-    ensures { unpacked_step result ≡ in_sixteen (row_of width size (unpacked word) loaded stage) }
+pub(crate) fn row(sizes: Sizes, word: PackedWord, loaded: u16, stage: Stage) -> PackedStep
+    ensures { unpacked_step result ≡ in_sixteen (row_of sizes.width sizes.size (unpacked word) loaded stage) }
 {
     match stage {
         Stage::Idle => leaves(word, Next::Going(Stage::Idle)),
-        Stage::P1 { node } => p1(size, word, node),
+        Stage::P1 { node } => p1(sizes.size, word, node),
         Stage::P2 { node, b } => p2(word, node, b),
         Stage::P3 { b } => p3(word, b),
         Stage::T1 => t1(word),
@@ -208,7 +208,7 @@ pub(crate) fn row(width: u8, size: u8, word: PackedWord, loaded: u16, stage: Sta
         Stage::B3 { b } => b3(word, loaded, b),
         Stage::B4 { b, x } => b4(word, b, x),
         Stage::B5 { b, x, t, g } => b5(word, b, x, t, g),
-        Stage::B6 { b, x, t, g } => b6(width, word, b, x, t, g),
-        Stage::B7 { t, g, .. } => b7(width, word, t, g),
+        Stage::B6 { b, x, t, g } => b6(sizes.width, word, b, x, t, g),
+        Stage::B7 { t, g, .. } => b7(sizes.width, word, t, g),
     }
 }

@@ -15,12 +15,11 @@ use Rattle.base.proofs.Lists.{list_of_get_d}
 use Rattle.call_log.specs.Numbers.{push, bottom_pop, top_pop}
 use Rattle.call_log.specs.declared.Entry.{Entry}
 use Rattle.word.specs.Stages.{row_number, is_idle}
-use Rattle.steps.specs.Step.{same_age, row_of, loaded, loaded_slot, stage_after}
+use Rattle.steps.specs.Step.{same_age, row_of, loaded, loaded_slot, stage_after, Stepped}
 use Rattle.steps.specs.declared.Next.{Next}
 use Rattle.steps.specs.declared.Next.TheVariants.{Going, Done, Node, Nil, Lost, Full}
 use Rattle.word.specs.declared.Stage.{Stage}
 use Rattle.word.specs.declared.Stage.TheVariants.{Idle, P1, P2, P3, T1, T2, T3, T4, B1, B2, B3, B4, B5, B6, B7}
-use Rattle.steps.specs.declared.Stepped.{Stepped}
 use Rattle.word.specs.declared.Word.{Word}
 use Rattle.runfile.specs.Check.{sum}
 use Rattle.runfile.proofs.CheckLaws.{sum_next}

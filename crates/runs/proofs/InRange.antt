@@ -9,7 +9,8 @@ use lib.ListN.{length, get_or}
 use Rattle.word.specs.Range.{in_range}
 use Rattle.steps.specs.Step.{loaded_slot, loaded}
 use Rattle.base.proofs.Cases.{either_way, ever}
-use Rattle.steps.proofs.Below.{LoadsBelow, StoresBelow}
+use Rattle.std.specs.Prelude.{Option, Some, IfSome}
+use Rattle.steps.specs.declared.Store.{Store}
 use Rattle.steps.proofs.StepLaws.{loads_below, stores_below}
 use Rattle.runfile.specs.Encode.{InRanges}
 use Rattle.base.specs.Bytes.{Bytes}
@@ -20,8 +21,6 @@ use Rattle.runs.specs.Moment.{queue_of}
 use Rattle.call_log.specs.Decode.{log_length}
 use Rattle.runs.specs.Run.{Outcome, refusal, finished, closed, outcome, run_of}
 use Rattle.word.specs.Stages.{is_idle}
-use Rattle.steps.specs.declared.Load.TheVariants as load
-use Rattle.steps.specs.declared.Store.TheVariants as store
 use Rattle.runs.specs.State.{Process, State, queue_at, process_at}
 use Rattle.runs.specs.Turn.{stepping}
 use Rattle.runs.proofs.Sound.{placed_in_range}
@@ -31,20 +30,20 @@ use Rattle.runs.proofs.States.{WhoeverSteps, sound, each_scripted}
 
 -- whoever steps next loads and stores slots below C only
 pub record Touches (f : RunFile) (s : State) (p : ℕ) (r : Process) : Type 0 where
-  pub loads : (at : ℕ) → loaded_slot r.stage ≡ load.Slot at → at < f.size
-  pub stores : (at node : ℕ) → is_idle r.stage ≡ false → (stepping f.width f.size p r s).store ≡ store.Slot at node → at < f.size
+  pub loads : (at : ℕ) → loaded_slot r.stage ≡ Some at → at < f.size
+  pub stores : (at node : ℕ) → is_idle r.stage ≡ false → (stepping f.width f.size p r s).store ≡ Some (record { at = at; node = node }) → at < f.size
 
 pub below_C : WhoeverSteps Touches
 below_C f h s o p lt =
     let v = sound f h s o in
     ready_case f h (Touches f s p) s v (each_scripted f h s o) p lt
     (λ e. record {
-      loads = λ at l. subst (LoadsBelow f.size) l (loads_below f.width f.size (process_at s.bench p).stage (v.each p lt).stage);
+      loads = λ at l. subst (λ (o : Option ℕ). IfSome o (λ at. at < f.size)) l (loads_below f.width f.size (process_at s.bench p).stage (v.each p lt).stage);
       stores = λ at node d. ever (sym e ∙ d);
     })
     (λ r k c. record {
-      loads = λ at l. subst (LoadsBelow f.size) l (loads_below f.width f.size r.stage k.placed.stage);
-      stores = λ at node d t. subst (StoresBelow f.size) t (stores_below f.width f.size (queue_at s.bench (queue_of p r.call)).word
+      loads = λ at l. subst (λ (o : Option ℕ). IfSome o (λ at. at < f.size)) l (loads_below f.width f.size r.stage k.placed.stage);
+      stores = λ at node d t. subst (λ (o : Option Store). IfSome o (λ made. made.at < f.size)) t (stores_below f.width f.size (queue_at s.bench (queue_of p r.call)).word
           (loaded (slots_at s (queue_of p r.call)) (loaded_slot r.stage)) r.stage k.placed.stage);
     })
 

@@ -7,14 +7,13 @@ use Rattle.runs.specs.Moment.{queue_of, is_take}
 use Rattle.runs.specs.Inner.Sound.{is_push, is_top, is_own, is_first, Suits}
 use Rattle.runs.specs.Turn.{first_stage}
 use Rattle.word.specs.Stages.{row_number, is_idle, past_b2}
-use Rattle.steps.specs.Step.{same_age, row_of, stage_after}
+use Rattle.steps.specs.Step.{same_age, row_of, stage_after, Stepped}
 use Rattle.base.proofs.Cases.{either_way, never, ever}
 use Rattle.word.specs.declared.Word.{Word}
 use Rattle.word.specs.declared.Stage.{Stage}
 use Rattle.word.specs.declared.Stage.TheVariants.{Idle, P1, P2, P3, T1, T2, T3, T4, B1, B2, B3, B4, B5, B6, B7}
 use Rattle.steps.specs.declared.Next.{Next}
 use Rattle.steps.specs.declared.Next.TheVariants as next
-use Rattle.steps.specs.declared.Stepped.{Stepped}
 use Rattle.runfile.specs.declared.Call.{Call}
 use Rattle.runfile.specs.declared.Call.TheVariants.{Push, Pop, Take}
 

@@ -12,10 +12,9 @@ use Rattle.word.specs.Stages.{is_idle}
 use Rattle.word.specs.declared.Stage.{Stage}
 use Rattle.word.specs.declared.Stage.TheVariants.{Idle, P1, P2, P3, T1, T2, T3, T4, B1, B2, B3, B4, B5, B6, B7}
 use Rattle.word.specs.declared.Word.{Word}
-use Rattle.steps.specs.Step.{same_age, row_of, loaded_slot, loaded}
+use Rattle.steps.specs.Step.{same_age, row_of, loaded_slot, loaded, Stepped}
 use Rattle.steps.specs.declared.Next.{Next}
 use Rattle.steps.specs.declared.Next.TheVariants.{Going, Done, Node, Nil, Lost, Full}
-use Rattle.steps.specs.declared.Stepped.{Stepped}
 use Rattle.steps.proofs.StepLaws.{failed_T4}
 use Rattle.base.proofs.Cases.{either_way, ever}
 use Rattle.runs.specs.Moment.{queue_of, is_take, ended}

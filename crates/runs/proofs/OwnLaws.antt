@@ -16,10 +16,9 @@ use Rattle.word.specs.Stages.{is_idle}
 use Rattle.word.specs.Inner.StepsLeft.{steps_left}
 use Rattle.word.specs.declared.Stage.{Stage}
 use Rattle.word.specs.declared.Word.{Word}
-use Rattle.steps.specs.Step.{loaded_slot, loaded, stage_after}
+use Rattle.steps.specs.Step.{loaded_slot, loaded, stage_after, Stepped}
 use Rattle.steps.specs.declared.Next.{Next}
 use Rattle.steps.specs.declared.Next.TheVariants.{Going, Done, Node, Nil, Lost, Full}
-use Rattle.steps.specs.declared.Stepped.{Stepped}
 use Rattle.steps.proofs.StepLaws.{lowers}
 use Rattle.runfile.specs.Encode.{InRanges}
 use Rattle.runfile.specs.File.{RunFile}

@@ -11,12 +11,9 @@ use Rattle.word.specs.Range.{in_range}
 use Rattle.word.specs.Inner.InRange.{WordIn, StageIn}
 use Rattle.word.proofs.RangeLaws.{range_in}
 use Rattle.word.specs.Stages.{is_idle}
-use Rattle.steps.specs.Step.{loaded_slot, loaded, stored}
-use Rattle.steps.proofs.StepLaws.{stays_in, StaysIn}
+use Rattle.steps.specs.Step.{loaded_slot, loaded, Stepped}
+use Rattle.steps.proofs.StepLaws.{stays_in, stored_length, StaysIn}
 use Rattle.word.specs.declared.Stage.TheVariants.{Idle}
-use Rattle.steps.specs.declared.Stepped.{Stepped}
-use Rattle.steps.specs.declared.Store.{Store}
-use Rattle.steps.specs.declared.Store.TheVariants as store
 use Rattle.runfile.specs.declared.Call.{Call}
 use Rattle.call_log.specs.declared.Entry.{Entry}
 use Rattle.runfile.specs.declared.Call.TheVariants.{Push, Pop, Take}
@@ -148,10 +145,6 @@ module _ (f : Sizes) (h : Fit f) where
         stays_in f.width f.size (queue_at s.bench (queue_of p r.call)).word
         (loaded (slots_at s (queue_of p r.call)) (loaded_slot r.stage)) r.stage
         (v.words (queue_of p r.call) k.placed.queue) k.placed.stage
-
-    stored_length : (l : List ℕ) (m : Store) → length (stored l m) ≡ length l
-    stored_length l store.Nothing = refl
-    stored_length l (store.Slot at node) = length-set l at node
 
     placed_after : Placed f p (process_after s.bench.steps (queue_at s.bench (queue_of p r.call)).resets r (row_at f s p r).next)
     placed_after =

@@ -13,7 +13,7 @@ use Rattle.base.proofs.Cases.{either_way}
 use Rattle.word.specs.Stages.{is_idle, at_b2}
 use Rattle.steps.specs.declared.Next.{Next}
 use Rattle.steps.specs.declared.Next.TheVariants.{Going, Done, Node, Nil, Lost, Full}
-use Rattle.steps.specs.declared.Stepped.{Stepped}
+use Rattle.steps.specs.Step.{Stepped}
 use Rattle.base.specs.Bytes.{byte_at, number_at}
 use Rattle.base.proofs.Lists.{list_of-length, list_of_get_d}
 use Rattle.runfile.specs.declared.Coded.{Coded}

@@ -1,11 +1,9 @@
 -- What is shown of every run of a good file, gone-round runs included.
-use Rattle.std.specs.Prelude.{ℕ, zero, suc, ◌+◌, ◌-◌, ◌<◌, ◌≤◌, true, false, cond, ◌&&◌, ltb, leb, eqb, List, [], ◌∷◌, map, length, get_or, take, ◌↔◌, ◌≡◌}
+use Rattle.std.specs.Prelude.{ℕ, zero, suc, ◌+◌, ◌-◌, ◌<◌, ◌≤◌, true, false, cond, ◌&&◌, ltb, leb, eqb, List, [], ◌∷◌, map, length, get_or, take, Some, ◌↔◌, ◌≡◌}
 use Rattle.base.specs.{Bytes.Bytes, Lists.All}
 use Rattle.call_log.specs.{Numbers.push, Numbers.bottom_pop, Numbers.lost, declared.Entry.Entry}
 use Rattle.word.specs.{Range.in_range, Stages.is_idle, declared.Stage.Stage, declared.Word.Word, declared.Stage.TheVariants.T4}
 use Rattle.steps.specs.Step.{same_age, loaded_slot}
-use Rattle.steps.specs.declared.Load.TheVariants as load
-use Rattle.steps.specs.declared.Store.TheVariants as store
 use Rattle.runfile.specs.{Check.sum, Encode.InRanges, File.RunFile, File.script, declared.Call.Call}
 use Rattle.runfile.specs.declared.Call.TheVariants.{Push, Pop, Take}
 use Rattle.runs.specs.{Moment.queue_of, Moment.Ended, Moment.Nothing, Moment.ends, State.Process, State.State, State.queue_at, State.process_at}
@@ -22,8 +20,8 @@ Writes3 (ends e) = e.result ≡ lost
 -- of whoever steps next,
 pub record NextStep (f : RunFile) (s : State) (p : ℕ) (r : Process) : Type 0 where
   -- that it loads and stores slots below C only;
-  pub loads : (at : ℕ) → loaded_slot r.stage ≡ load.Slot at → at < f.size
-  pub stores : (at node : ℕ) → is_idle r.stage ≡ false → (stepping f.width f.size p r s).store ≡ store.Slot at node → at < f.size
+  pub loads : (at : ℕ) → loaded_slot r.stage ≡ Some at → at < f.size
+  pub stores : (at node : ℕ) → is_idle r.stage ≡ false → (stepping f.width f.size p r s).store ≡ Some (record { at = at; node = node }) → at < f.size
   -- that it is in range, as the desk has it: the word and the slots of its queue, and its stage;
   pub in_range : let q : ℕ = queue_of p r.call in
       in_range f.width f.size (length (get_or s.slots q [])) (queue_at s.bench q).word r.stage ≡ true

@@ -3,7 +3,7 @@ use Rattle.std.specs.Prelude.{ℕ, ◌+◌, cond, ◌&&◌, ltb, List, [], ◌�
 use Rattle.call_log.specs.declared.Entry.{Entry}
 use Rattle.word.specs.{Stages.is_idle, Stages.at_t1, Stages.at_b2, declared.Stage.Stage}
 use Rattle.word.specs.declared.Stage.TheVariants.{P1, T1, B1}
-use Rattle.steps.specs.{Step.stored, Step.stepped_on, Step.stage_after, declared.Next.Next, declared.Stepped.Stepped}
+use Rattle.steps.specs.{Step.stored, Step.stepped_on, Step.stage_after, declared.Next.Next, Step.Stepped}
 use Rattle.runfile.specs.{declared.Call.Call, declared.Call.TheVariants.Push, declared.Call.TheVariants.Pop, declared.Call.TheVariants.Take}
 use Rattle.runs.specs.Moment.{queue_of, Ended, Nothing, ends, ended, gone_round}
 use Rattle.runs.specs.State.{Queue, Process, Bench, State, queue_at, process_at}

@@ -1,5 +1,4 @@
 -- Laws of the step, on three numbers and with top and tag in one word; and that the promises settle their answers.
-pub mod Below
 pub mod StepLaws
 pub mod PackedLaws
 pub mod Settled

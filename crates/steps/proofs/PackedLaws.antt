@@ -5,12 +5,10 @@ use borrow.Author.Tests.{eqb-false}
 use Rattle.word.specs.Tag.{next_tag}
 use Rattle.word.specs.declared.Word.{Word}
 use Rattle.word.specs.declared.Stage.{Stage}
-use Rattle.steps.specs.Step.{bottom_to, age_to, leaves, resets, stored, in_sixteen, stepped_on, StepOn}
-use Rattle.steps.specs.Packed.{packed, top_of, tag_of, next_age, packed_word, unpacked, unpacked_step, StepPacked}
+use Rattle.steps.specs.Step.{bottom_to, age_to, leaves, resets, stored, in_sixteen, stepped_on, StepOn, Stepped}
+use Rattle.steps.specs.Packed.{packed, top_of, tag_of, next_age, packed_word, unpacked, unpacked_step, StepPacked, PackedStep}
 use Rattle.steps.specs.declared.Next.{Next}
-use Rattle.steps.specs.declared.Stepped.{Stepped}
 use Rattle.steps.specs.declared.PackedWord.{PackedWord}
-use Rattle.steps.specs.declared.PackedStep.{PackedStep}
 use Rattle.steps.proofs.StepLaws.{step_is}
 
 parts : (a : ℕ) → (tag_of a * 65536 + top_of a ≡ a) × (top_of a < 65536)

@@ -2,11 +2,10 @@
 use Rattle.std.proofs.Common.{◌≡◌, ℕ}
 use Rattle.base.proofs.Settled.{one_value}
 use Rattle.word.specs.declared.Word.{Word}
-use Rattle.steps.specs.Packed.{packed, top_of, tag_of, next_age, packed_word, unpacked, unpacked_step}
-use Rattle.steps.specs.declared.Stepped.{Stepped}
+use Rattle.steps.specs.Packed.{packed, top_of, tag_of, next_age, packed_word, unpacked, unpacked_step, PackedStep}
+use Rattle.steps.specs.Step.{Stepped}
 use Rattle.steps.specs.declared.PackedAge.{PackedAge}
 use Rattle.steps.specs.declared.PackedWord.{PackedWord}
-use Rattle.steps.specs.declared.PackedStep.{PackedStep}
 
 -- of PackedAge::of, top, tag and next_age
 pub age_of : (t g : ℕ) (r r' : PackedAge) → r.word ≡ packed t g → r'.word ≡ packed t g → r ≡ r'

@@ -1,17 +1,16 @@
 -- What is true of every row of the table.
-use Rattle.std.proofs.Common.{◌≡◌, ℕ, zero, suc, ◌-◌, ◌≤◌, false, eqb, ltb, leb, List, refl, ap, subst, mod-eq_of_lt, arith, pow_mono, leb-false}
+use Rattle.std.proofs.Common.{◌≡◌, ℕ, zero, suc, ◌-◌, ◌≤◌, ◌<◌, Option, Some, None, IfSome, false, eqb, ltb, leb, List, length, length-set, refl, ap, subst, mod-eq_of_lt, arith, pow_mono, leb-false}
 use borrow.Author.Tests.{eqb-false}
 use Rattle.word.proofs.TagLaws.{next_below}
 use Rattle.word.specs.Inner.InRange.{WordIn, StageIn, InRange}
 use Rattle.base.proofs.Cases.{either_way}
 use Rattle.word.specs.Inner.StepsLeft.{steps_left}
-use Rattle.steps.specs.Step.{leaves, resets, same_age, row_of, loaded_slot, stored, stage_after, result_of, in_sixteen, stepped_on, StepOn}
-use Rattle.steps.proofs.Below.{LoadsBelow, StoresBelow}
+use Rattle.steps.specs.Step.{leaves, resets, same_age, row_of, loaded_slot, stored, stage_after, result_of, in_sixteen, stepped_on, StepOn, Stepped}
 use Rattle.word.specs.declared.Word.{Word}
 use Rattle.word.specs.declared.Stage.{Stage}
 use Rattle.word.specs.declared.Stage.TheVariants.{Idle, P1, P2, P3, T1, T2, T3, T4, B1, B2, B3, B4, B5, B6, B7}
+use Rattle.steps.specs.declared.Store.{Store}
 use Rattle.steps.specs.declared.Next.TheVariants.{Going, Nil, Lost}
-use Rattle.steps.specs.declared.Stepped.{Stepped}
 
 abbrev Lower : ℕ → Stepped → Type 0
 Lower n r = steps_left (stage_after r.next) ≤ n
@@ -125,7 +124,7 @@ sixteen_in W C n w v s h =
     }
 
 -- no slot at or above C is touched by a stage in range: neither the one that it loads nor the one that it stores
-pub loads_below : (W C : ℕ) (s : Stage) → StageIn W C s → LoadsBelow C (loaded_slot s)
+pub loads_below : (W C : ℕ) (s : Stage) → StageIn W C s → IfSome (loaded_slot s) (λ at. at < C)
 loads_below W C Idle h = tt
 loads_below W C (P1 node) h = tt
 loads_below W C (P2 node b) h = tt
@@ -143,9 +142,9 @@ loads_below W C (B6 b x t g) h = tt
 loads_below W C (B7 b x t g) h = tt
 
 abbrev StoreIn : ℕ → Stepped → Type 0
-StoreIn C r = StoresBelow C r.store
+StoreIn C r = IfSome r.store (λ made. made.at < C)
 
-pub stores_below : (W C : ℕ) (w : Word) (v : ℕ) (s : Stage) → StageIn W C s → StoresBelow C (row_of W C w v s).store
+pub stores_below : (W C : ℕ) (w : Word) (v : ℕ) (s : Stage) → StageIn W C s → IfSome (row_of W C w v s).store (λ made. made.at < C)
 stores_below W C w v Idle h = tt
 stores_below W C w v (P1 node) h = either_way (StoreIn C) (eqb w.bottom C) (λ e. tt) (λ e. tt)
 stores_below W C w v (P2 node b) h = h
@@ -161,6 +160,11 @@ stores_below W C w v (B4 b x) h = either_way (StoreIn C) (ltb w.top (b - 1)) (λ
 stores_below W C w v (B5 b x t g) h = tt
 stores_below W C w v (B6 b x t g) h = either_way (StoreIn C) (same_age w t g) (λ e. tt) (λ e. tt)
 stores_below W C w v (B7 b x t g) h = tt
+
+-- a store leaves as many slots
+pub stored_length : (slots : List ℕ) (made : Option Store) → length (stored slots made) ≡ length slots
+stored_length slots None = refl
+stored_length slots (Some made) = length-set slots made.at made.node
 
 -- a comparison that fails alters nothing
 pub failed_T4 : (W C : ℕ) (w : Word) (v t g b x : ℕ) → same_age w t g ≡ false → row_of W C w v (T4 t g b x) ≡ leaves w Lost

@@ -1,8 +1,12 @@
 -- Top and tag in one word of 32 bits, the tag in the upper sixteen; and what the step on such a word promises.
 use Rattle.std.specs.Prelude.{ℕ, ◌+◌, ◌*◌, ◌/◌, ◌%◌, List, ◌≡◌}
 use Rattle.word.specs.{Tag.next_tag, declared.Word.Word, declared.Stage.Stage}
-use Rattle.steps.specs.{declared.Stepped.Stepped, declared.PackedWord.PackedWord, declared.PackedStep.PackedStep}
-use Rattle.steps.specs.Step.{in_sixteen, stepped_on, StepOn}
+use Rattle.steps.specs.{declared.PackedWord.PackedWord, declared.Step.Step}
+use Rattle.steps.specs.Step.{Stepped, in_sixteen, stepped_on, StepOn}
+
+-- a step on such a word
+abbrev pub PackedStep : Type 0
+PackedStep = Step PackedWord
 
 abbrev pub packed : ℕ → ℕ → ℕ
 packed t g = g * 65536 + t

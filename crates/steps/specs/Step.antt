@@ -1,11 +1,13 @@
 -- Document 01's table, row by row. W is the tag's width, C the number of slots, w the control word, v the value of the slot that is loaded.
-use Rattle.std.specs.Prelude.{ℕ, ◌+◌, ◌-◌, ◌%◌, Bool, true, false, cond, ◌&&◌, ltb, leb, eqb, List, [], ◌∷◌, get_or, set, ◌≡◌}
+use Rattle.std.specs.Prelude.{ℕ, ◌+◌, ◌-◌, ◌%◌, Bool, true, false, cond, ◌&&◌, ltb, leb, eqb, List, [], ◌∷◌, get_or, set, Option, Some, None, ◌≡◌}
 use Rattle.word.specs.{Tag.next_tag, Stages.row_number, Stages.first_loaded, declared.Word.Word, declared.Stage.Stage}
 use Rattle.word.specs.declared.Stage.TheVariants.{Idle, P1, P2, P3, T1, T2, T3, T4, B1, B2, B3, B4, B5, B6, B7}
-use Rattle.steps.specs.{declared.Next.Next, declared.Load.Load, declared.Store.Store, declared.Stepped.Stepped}
+use Rattle.steps.specs.{declared.Next.Next, declared.Store.Store, declared.Step.Step}
 use Rattle.steps.specs.declared.Next.TheVariants.{Going, Done, Node, Nil, Lost, Full}
-use Rattle.steps.specs.declared.Load.TheVariants as load
-use Rattle.steps.specs.declared.Store.TheVariants as store
+
+-- a step on three numbers
+abbrev pub Stepped : Type 0
+Stepped = Step Word
 
 abbrev pub bottom_to : Word → ℕ → Word
 bottom_to w b = record { bottom = b; top = w.top; tag = w.tag }
@@ -15,11 +17,11 @@ age_to w t g = record { bottom = w.bottom; top = t; tag = g }
 
 -- a step that leaves the word w, stores in no slot and is no reset
 abbrev pub leaves : Word → Next → Stepped
-leaves w n = record { word = w; store = store.Nothing; reset = false; next = n }
+leaves w n = record { word = w; store = None; reset = false; next = n }
 
 -- age becomes (0, next g)
 abbrev pub resets : ℕ → Word → ℕ → Next → Stepped
-resets W w g n = record { word = age_to w 0 (next_tag W g); store = store.Nothing; reset = true; next = n }
+resets W w g n = record { word = age_to w 0 (next_tag W g); store = None; reset = true; next = n }
 
 -- age is still (t, g): then it is "changed" at T4 and B6, also where the word written is the same, as at B6 with no tag and top 0
 abbrev pub same_age : Word → ℕ → ℕ → Bool
@@ -29,7 +31,7 @@ same_age w t g = eqb w.top t && eqb w.tag g
 abbrev pub row_of : ℕ → ℕ → Word → ℕ → Stage → Stepped
 row_of W C w v Idle = leaves w (Going Idle)
 row_of W C w v (P1 node) = cond (eqb w.bottom C) (leaves w Full) (leaves w (Going (P2 node w.bottom)))
-row_of W C w v (P2 node b) = record { word = w; store = store.Slot b node; reset = false; next = Going (P3 b) }
+row_of W C w v (P2 node b) = record { word = w; store = Some (record { at = b; node = node }); reset = false; next = Going (P3 b) }
 row_of W C w v (P3 b) = leaves (bottom_to w (b + 1)) Done
 row_of W C w v T1 = leaves w (Going (T2 w.top w.tag))
 row_of W C w v (T2 t g) = cond (leb w.bottom t) (leaves w Nil) (leaves w (Going (T3 t g w.bottom)))
@@ -44,18 +46,18 @@ row_of W C w v (B6 b x t g) = cond (same_age w t g) (resets W w g (Node x)) (lea
 row_of W C w v (B7 b x t g) = resets W w g Nil
 
 -- the slot that a stage loads: at T3 slot t, at B3 slot b−1, each by the number that its call loaded first
-abbrev pub loaded_slot : Stage → Load
+abbrev pub loaded_slot : Stage → Option ℕ
 loaded_slot s =
-    cond (eqb (row_number s) (row_number (T3 0 0 0))) (load.Slot (first_loaded s))
-    (cond (eqb (row_number s) (row_number (B3 0))) (load.Slot (first_loaded s - 1)) load.Nothing)
+    cond (eqb (row_number s) (row_number (T3 0 0 0))) (Some (first_loaded s))
+    (cond (eqb (row_number s) (row_number (B3 0))) (Some (first_loaded s - 1)) None)
 
-abbrev pub loaded : List ℕ → Load → ℕ
-loaded slots load.Nothing = 0
-loaded slots (load.Slot at) = get_or slots at 0
+abbrev pub loaded : List ℕ → Option ℕ → ℕ
+loaded slots None = 0
+loaded slots (Some at) = get_or slots at 0
 
-abbrev pub stored : List ℕ → Store → List ℕ
-stored slots store.Nothing = slots
-stored slots (store.Slot at node) = set slots at node
+abbrev pub stored : List ℕ → Option Store → List ℕ
+stored slots None = slots
+stored slots (Some made) = set slots made.at made.node
 
 -- This paper's values for what follows a step. Where the process stands: one whose call has returned is idle.
 abbrev pub stage_after : Next → Stage

@@ -1,9 +1,8 @@
 -- The table at its edges, computed: the places where document 01 says that errors tempt.
-use Rattle.std.specs.Prelude.{ℕ, List, [], ◌∷◌, map, ◌≡◌, refl}
-use Rattle.steps.specs.{Step.leaves, Step.resets, Step.row_of, Step.in_sixteen, Step.loaded_slot, declared.Stepped.Stepped}
+use Rattle.std.specs.Prelude.{ℕ, List, [], ◌∷◌, map, Some, None, ◌≡◌, refl}
+use Rattle.steps.specs.{Step.leaves, Step.resets, Step.row_of, Step.in_sixteen, Step.loaded_slot, Step.Stepped}
 use Rattle.steps.specs.Packed.{packed, top_of, tag_of, next_age, unpacked}
 use Rattle.steps.specs.declared.Next.TheVariants.{Going, Node, Nil, Lost, Full}
-use Rattle.steps.specs.declared.Load.TheVariants as Load
 use Rattle.word.specs.{Worked.word, declared.Word.Word, declared.Stage.Stage}
 use Rattle.word.specs.declared.Stage.TheVariants.{P1, P2, P3, T2, T3, T4, B3, B4, B5, B6, B7}
 
@@ -40,7 +39,7 @@ reset : ((resets 2 (word 0 1 2) 2 Nil).word ≡ word 0 0 3) × ((resets 0 (word 
 reset = (refl, refl, refl, refl)
 
 -- T3 loads slot t and B3 slot b−1; P2 loads none, and stores
-loads : map loaded_slot (T3 2 0 3 ∷ B3 3 ∷ P2 7 3 ∷ []) ≡ Load.Slot 2 ∷ Load.Slot 2 ∷ Load.Nothing ∷ []
+loads : map loaded_slot (T3 2 0 3 ∷ B3 3 ∷ P2 7 3 ∷ []) ≡ Some 2 ∷ Some 2 ∷ None ∷ []
 loads = refl
 
 -- the age in one word: tag 257 and top 1 are 257 × 65,536 + 1; the age after tag 65,535 is the word 0, and with no tag it is always 0

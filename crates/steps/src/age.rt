@@ -1,6 +1,6 @@
 // The age in one word of 32 bits: the tag in the upper sixteen, the top in the lower.
 ghost use Rattle.std.specs.Prelude.{◌≡◌};
-ghost use Rattle.steps.specs.Packed.{packed, top_of, tag_of, next_age, packed_word, unpacked as unpacked_of, unpacked_step};
+ghost use Rattle.steps.specs.Packed.{packed, top_of, tag_of, next_age, packed_word, unpacked, unpacked_step};
 
 use crate::tag::next_tag;
 use crate::{PackedAge, PackedStep, PackedWord, Stepped};
@@ -10,10 +10,8 @@ impl PackedAge {
     pub fn of(top: u16, tag: u16) -> PackedAge
         ensures { result.word ≡ packed top tag }
     {
-        let high = tag as u32;
-        let low = top as u32;
         PackedAge {
-            word: high * 65536 + low,
+            word: u32::from(tag) * 65536 + u32::from(top),
         }
     }
 
@@ -37,40 +35,39 @@ impl PackedAge {
     }
 }
 
-impl PackedWord {
-    pub fn of(word: Word) -> PackedWord
-        ensures { result ≡ packed_word word }
-    {
+impl From<Word> for PackedWord {
+    ghost from_gives = { λ w r. r ≡ packed_word w };
+
+    fn from(word: Word) -> PackedWord {
         PackedWord {
             bottom: word.bottom,
             age: PackedAge::of(word.top, word.tag),
         }
     }
+}
 
-    pub fn unpacked(self) -> Word
-        ensures { result ≡ unpacked_of self }
-    {
-        let age = self.age;
+impl From<PackedWord> for Word {
+    ghost from_gives = { λ w r. r ≡ unpacked w };
+
+    fn from(word: PackedWord) -> Word {
+        let age = word.age;
         Word {
-            bottom: self.bottom,
+            bottom: word.bottom,
             top: age.top(),
             tag: age.tag(),
         }
     }
 }
 
-impl PackedStep {
-    pub fn unpacked(self) -> Stepped
-        ensures { result ≡ unpacked_step self }
-    {
-        let word = self.word;
-        let store = self.store;
-        let next = self.next;
+impl From<PackedStep> for Stepped {
+    ghost from_gives = { λ o r. r ≡ unpacked_step o };
+
+    fn from(step: PackedStep) -> Stepped {
         Stepped {
-            word: word.unpacked(),
-            store,
-            reset: self.reset,
-            next,
+            word: step.word.into(),
+            store: step.store,
+            reset: step.reset,
+            next: step.next,
         }
     }
 }

@@ -17,26 +17,11 @@ pub enum Next {
     Full,
 }
 
-// The slot that a stage loads, if it loads one.
+// A store in a slot: the slot, and the node.
 #[derive(Clone, Copy)]
-pub enum Load {
-    Nothing,
-    Slot(u16),
-}
-
-// The store in a slot that a step makes, if it makes one: the slot, and the node.
-#[derive(Clone, Copy)]
-pub enum Store {
-    Nothing,
-    Slot(u16, u16),
-}
-
-#[derive(Clone, Copy)]
-pub struct Stepped {
-    pub word: Word,
-    pub store: Store,
-    pub reset: bool,
-    pub next: Next,
+pub struct Store {
+    pub at: u16,
+    pub node: u16,
 }
 
 // Top and tag in one word, as the box has them: tag × 65,536 + top.
@@ -52,11 +37,15 @@ pub struct PackedWord {
     pub age: PackedAge,
 }
 
-// A step on such a word.
+// A step on a word of type W: the word that it leaves, its store if it makes one, and whether it is a reset.
 #[derive(Clone, Copy)]
-pub struct PackedStep {
-    pub word: PackedWord,
-    pub store: Store,
+pub struct Step<W> {
+    pub word: W,
+    pub store: Option<Store>,
     pub reset: bool,
     pub next: Next,
 }
+
+// A step on the three numbers, and one on the word of the box.
+pub type Stepped = Step<Word>;
+pub type PackedStep = Step<PackedWord>;

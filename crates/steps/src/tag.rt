@@ -6,7 +6,7 @@ ghost use Rattle.word.specs.Tag.{next_tag};
 pub(crate) fn next_tag(width: u8, g: u16) -> u16
     ensures { result ≡ next_tag width g % 65536 }
 {
-    let up = std::num::wrapping_add_u16(g, 1);
+    let up = g.wrapping_add(1);
     if width < 16 {
         let tags = 1u16 << width;
         up % tags

@@ -1,10 +1,9 @@
 -- Top and tag in one word, and all slots in one row: every step, log and count is as in the layout before, and the desk shows the same numbers.
-use Rattle.std.specs.Prelude.{ℕ, ◌<◌, true, List, length, take, ◌≡◌}
+use Rattle.std.specs.Prelude.{ℕ, ◌<◌, true, List, length, take, Ok, ◌≡◌}
 use Rattle.word.specs.{Range.in_range, declared.Word.Word, declared.Stage.Stage}
-use Rattle.steps.specs.{Step.stored, Step.stepped_on, declared.Stepped.Stepped, declared.PackedWord.PackedWord, declared.PackedStep.PackedStep}
+use Rattle.steps.specs.{Step.stored, Step.stepped_on, Step.Stepped, declared.PackedWord.PackedWord, Packed.PackedStep}
 use Rattle.steps.specs.Packed.{packed, packed_word, unpacked, unpacked_step, StepPacked}
 use Rattle.desk.specs.Desk.{AtDesk}
-use Rattle.desk.specs.declared.Answer.TheVariants as answers
 use Rattle.runs.specs.Promise.{Ran, HandsBack}
 
 pub record OneWord : Type 0 where
@@ -18,4 +17,4 @@ pub record OneWord : Type 0 where
   -- a word of the desk's three numbers, packed, stepped and unpacked, is what the desk promises in range
   pub desk_same : (W C : ℕ) (w : Word) (slots : List ℕ) (s : Stage) (answer : PackedStep) (after : List ℕ) → w.top < 65536
       → StepPacked W C (packed_word w) slots s answer after → in_range W C (length slots) w s ≡ true
-      → AtDesk W C w slots s (answers.Stepped answer.next) (unpacked answer.word) after
+      → AtDesk W C w slots s (Ok answer.next) (unpacked answer.word) after

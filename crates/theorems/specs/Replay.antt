@@ -1,7 +1,7 @@
 -- A run stepped by hand at the desk: a person keeps a sheet, lends one stage after another, and notes the answers; the desk alone makes the steps.
 use Rattle.std.specs.Prelude.{ℕ, zero, suc, ◌/◌, ◌%◌, ◌<◌, cond, ltb, List, [], ◌∷◌, ◌++◌, map, length, get_or, set, take, drop, replicate, ◌≡◌, refl}
 use Rattle.base.specs.{Lists.list_of, Bytes.Bytes}
-use Rattle.desk.specs.{Desk.number_of, Desk.stage_of, Desk.desk_answer, Desk.desk_word, Desk.desk_slots, declared.Answer.Answer}
+use Rattle.desk.specs.{Desk.number_of, Desk.stage_of, Desk.desk_answer, Desk.desk_word, Desk.desk_slots, Desk.Answer}
 use Rattle.word.specs.{Stages.is_idle, declared.Stage.Stage, declared.Word.Word}
 use Rattle.word.specs.declared.Stage.TheVariants.{Idle, P1, P2, P3, T1, T2, T3, T4, B1, B2, B3, B4, B5, B7}
 use Rattle.runfile.specs.{File.RunFile, File.good, File.script, File.record_in, File.file_of, declared.Call.Call}

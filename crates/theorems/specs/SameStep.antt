@@ -1,9 +1,8 @@
 -- The run's step and the desk's are the same: both are `stepped_on`, on the queue's word and slots and the process's stage.
-use Rattle.std.specs.Prelude.{ℕ, ◌<◌, true, List, [], ◌∷◌, length, get_or, ◌⊎◌, ◌≡◌}
+use Rattle.std.specs.Prelude.{ℕ, ◌<◌, true, List, [], ◌∷◌, length, get_or, Ok, ◌⊎◌, ◌≡◌}
 use Rattle.word.specs.{Range.in_range, declared.Stage.Stage, declared.Word.Word}
-use Rattle.steps.specs.{Step.stored, Step.stepped_on, Step.stage_after, declared.Next.Next, declared.Stepped.Stepped}
-use Rattle.desk.specs.{Desk.result_of, Desk.AtDesk, declared.Answer.Answer}
-use Rattle.desk.specs.declared.Answer.TheVariants as answers
+use Rattle.steps.specs.{Step.stored, Step.stepped_on, Step.stage_after, declared.Next.Next, Step.Stepped}
+use Rattle.desk.specs.{Desk.result_of, Desk.AtDesk, Desk.Answer}
 use Rattle.runs.specs.Moment.{queue_of, Ended, Nothing, ends, ended}
 use Rattle.runs.specs.{State.Process, State.State, State.queue_at, State.process_at, Turn.act}
 
@@ -25,6 +24,6 @@ pub record OneStep : Type 0 where
   -- the desk's promise, on that word, these slots and that stage, is of the same step, where it is in range: in a run every step is (`shown`)
   pub desk_steps : (W C : ℕ) (w : Word) (slots : List ℕ) (z : Stage) (answer : Answer) (word : Word) (after : List ℕ)
       → AtDesk W C w slots z answer word after → in_range W C (length slots) w z ≡ true
-      → let o : Stepped = stepped_on W C w slots z in (answer ≡ answers.Stepped o.next) × (word ≡ o.word) × (after ≡ stored slots o.store)
+      → let o : Stepped = stepped_on W C w slots z in (answer ≡ Ok o.next) × (word ≡ o.word) × (after ≡ stored slots o.store)
   -- the result at the desk, and the node of a pop, are those of the entry that a run's step writes
-  pub same_result : (p n : ℕ) (r owner : Process) (t : ℕ) (x : Next) → Tells (result_of (answers.Stepped x)) (ended p n r owner t x)
+  pub same_result : (p n : ℕ) (r owner : Process) (t : ℕ) (x : Next) → Tells (result_of (Ok x)) (ended p n r owner t x)

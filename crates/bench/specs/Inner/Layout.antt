@@ -7,8 +7,7 @@ use Rattle.call_log.specs.Decode.{log_length}
 use Rattle.call_log.specs.Encode.{entry_bytes}
 use Rattle.call_log.specs.declared.Entry.{Entry}
 use Rattle.steps.specs.Step.{stored, in_sixteen, stepped_on}
-use Rattle.steps.specs.Packed.{unpacked, unpacked_step, top_of}
-use Rattle.steps.specs.declared.PackedStep.{PackedStep}
+use Rattle.steps.specs.Packed.{unpacked, unpacked_step, top_of, PackedStep}
 use Rattle.steps.specs.declared.PackedWord.{PackedWord}
 use Rattle.word.specs.Inner.StepsLeft.{steps_left}
 use Rattle.word.specs.declared.Stage.{Stage}

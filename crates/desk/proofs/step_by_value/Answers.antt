@@ -3,5 +3,5 @@ use mathlib.Core.Path.{refl, sym, ◌∙◌}
 use Rattle.desk.proofs.DeskLaws.{at_desk}
 use Rattle.desk.proofs.step_by_value.Goals as goal
 
-pub returns-then-in_range : goal.returns-then-in_range
-returns-then-in_range c = at_desk _ _ _ _ _ _ _ _ (sym c.in_range.ensures ∙ c.if-in_range.true) c.step_on-stepped.ensures refl
+pub returns : goal.returns
+returns c = at_desk _ _ _ _ _ _ _ _ (sym c.in_range.ensures ∙ c.if-not-in_range.false) c.step_on-stepped.ensures refl

@@ -5,4 +5,4 @@ use Rattle.desk.proofs.step_on.Goals as goal
 
 pub returns : goal.returns
 returns c = on_three _ _ c.args.word _ _ _ _ _ _ (search rules)
-    c.of.ensures c.step_packed-stepped.ensures c.unpacked.ensures
+    c.from.ensures c.step_packed-stepped.ensures c.from-2.ensures

@@ -3,5 +3,5 @@ use borrow.Author.Rules.{rules}
 use Rattle.word.proofs.TagLaws.{tag_wide}
 use Rattle.range.proofs.is_tag.Goals as goal
 
-pub returns-else-width-lt16 : goal.returns-else-width-lt16
-returns-else-width-lt16 c = search (rules, tag_wide)
+pub returns-then-width-ge16 : goal.returns-then-width-ge16
+returns-then-width-ge16 c = search (rules, tag_wide)

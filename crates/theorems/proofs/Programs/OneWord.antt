@@ -2,12 +2,11 @@
 use mathlib.Core.Path.{refl, ap, ◌∙◌}
 use lib.ListN.{length}
 use Rattle.word.proofs.RangeLaws.{in_range_lem}
-use Rattle.steps.specs.Step.{loaded, loaded_slot}
+use Rattle.steps.specs.Step.{loaded, loaded_slot, Stepped}
 use Rattle.steps.specs.Packed.{packed, packed_word, unpacked, unpacked_step}
-use Rattle.steps.specs.declared.Stepped.{Stepped}
 use Rattle.steps.proofs.StepLaws.{sixteen_in}
 use Rattle.steps.proofs.PackedLaws.{on_three}
-use Rattle.desk.specs.declared.Answer.TheVariants as answers
+use Rattle.std.specs.Prelude.{Ok}
 use Rattle.desk.proofs.DeskLaws.{at_desk}
 use Rattle.base.proofs.Settled.{one_value}
 use Rattle.theorems.specs.OneWord.{OneWord}
@@ -23,6 +22,6 @@ one_word = record {
       let k = front_handed_back file buffer w' b' r' t' q in
       (d, one_value d.part k.part, one_value d.counts k.counts, one_value d.queues k.queues);
   desk_same = λ W C w slots s answer after h d e.
-      at_desk W C w slots s after (unpacked_step answer) (answers.Stepped answer.next) e
+      at_desk W C w slots s after (unpacked_step answer) (Ok answer.next) e
       (on_three W C w slots s (packed_word w) answer (unpacked_step answer) after h refl d refl) refl;
 }

@@ -5,10 +5,9 @@ use mathlib.Core.Bool.{true, cond}
 use mathlib.Core.List.{List, [], ◌∷◌, ◌++◌, append-nil}
 use lib.ListN.{set}
 use Rattle.word.specs.Stages.{past_b2, first_loaded, pops_slot}
-use Rattle.steps.specs.Step.{bottom_to, age_to, loaded_slot, loaded, stored, row_of}
+use Rattle.steps.specs.Step.{bottom_to, age_to, loaded_slot, loaded, stored, row_of, Stepped}
 use Rattle.word.specs.declared.Stage.{Stage}
 use Rattle.word.specs.declared.Stage.TheVariants.{Idle, P1, P2, P3, T1, T2, T3, T4, B1, B2, B3, B4, B5, B6, B7}
-use Rattle.steps.specs.declared.Stepped.{Stepped}
 use Rattle.word.specs.declared.Word.{Word}
 use Rattle.call_log.specs.declared.Entry.{Entry}
 use Rattle.runs.specs.Moment.{Ended, Nothing, ends}

@@ -17,11 +17,10 @@ use Rattle.call_log.specs.declared.Entry.{Entry}
 use Rattle.call_log.specs.declared.What.{What}
 use Rattle.call_log.specs.declared.What.TheVariants.{Pushed, Full, BottomNode, BottomNil}
 use Rattle.word.specs.Stages.{past_b2, at_b2}
-use Rattle.steps.specs.Step.{bottom_to, leaves as stays, stage_after}
+use Rattle.steps.specs.Step.{bottom_to, leaves as stays, stage_after, Stepped}
 use Rattle.steps.specs.declared.Next.TheVariants as next
 use Rattle.word.specs.declared.Stage.{Stage}
 use Rattle.word.specs.declared.Stage.TheVariants.{Idle, P1, P2, P3, T1, T2, T3, T4, B1, B2, B3, B4, B5, B6, B7}
-use Rattle.steps.specs.declared.Stepped.{Stepped}
 use Rattle.base.proofs.Cases.{if_eq, if_lt, never}
 use Rattle.runfile.specs.declared.Call.{Call}
 use Rattle.runfile.specs.declared.Call.TheVariants.{Push}

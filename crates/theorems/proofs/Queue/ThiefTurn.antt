@@ -16,10 +16,9 @@ use Rattle.call_log.specs.declared.Entry.{Entry}
 use Rattle.call_log.specs.declared.What.{What}
 use Rattle.call_log.specs.declared.What.TheVariants.{Pushed, TopNode, TopNil, TopLost}
 use Rattle.word.specs.Stages.{past_b2, first_loaded, pops_slot, at_t1}
-use Rattle.steps.specs.Step.{age_to, stage_after}
+use Rattle.steps.specs.Step.{age_to, stage_after, Stepped}
 use Rattle.word.specs.declared.Stage.{Stage}
 use Rattle.word.specs.declared.Stage.TheVariants.{Idle, P1, P2, P3, T1, T2, T3, T4, B1, B2, B3, B4, B5, B6, B7}
-use Rattle.steps.specs.declared.Stepped.{Stepped}
 use Rattle.runfile.specs.declared.Call.{Call}
 use Rattle.runs.specs.State.{Process}
 use Rattle.runs.specs.Moment.{queue_of, is_take, entry, take_moment, ended, gone_round}

@@ -13,12 +13,11 @@ use Rattle.call_log.specs.declared.Entry.{Entry}
 use Rattle.call_log.specs.declared.What.{What}
 use Rattle.call_log.specs.declared.What.TheVariants.{Pushed, Full, BottomNode, BottomNil, TopNode, TopNil, TopLost}
 use Rattle.word.specs.Stages.{row_number, is_idle, at_b2, past_b2, pops_slot}
-use Rattle.steps.specs.Step.{loaded_slot, loaded, stage_after}
+use Rattle.steps.specs.Step.{loaded_slot, loaded, stage_after, Stepped}
 use Rattle.steps.specs.declared.Next.{Next}
 use Rattle.steps.specs.declared.Next.TheVariants as next
 use Rattle.word.specs.declared.Stage.{Stage}
 use Rattle.word.specs.declared.Stage.TheVariants.{Idle, P1, P2, P3, T1, T2, T3, T4, B1, B2, B3, B4, B5, B6, B7}
-use Rattle.steps.specs.declared.Stepped.{Stepped}
 use Rattle.runfile.specs.declared.Call.{Call}
 use Rattle.runfile.specs.declared.Call.TheVariants.{Push, Pop, Take}
 use Rattle.runs.specs.Moment.{queue_of, pushed_node, is_take, entry, nil_moment, take_moment, gone_round}

@@ -8,8 +8,7 @@ use native.Mathlib.Omega.{arith}
 use lib.ListN.{get_or, set}
 use Rattle.call_log.specs.declared.Entry.{Entry}
 use Rattle.word.specs.Stages.{past_b2}
-use Rattle.steps.specs.Step.{stored}
-use Rattle.steps.specs.declared.Stepped.{Stepped}
+use Rattle.steps.specs.Step.{stored, Stepped}
 use Rattle.runs.specs.Moment.{queue_of}
 use Rattle.runs.specs.State.{Process, Queue, State, fresh, nobody, queue_at, process_at}
 use Rattle.runs.specs.Turn.{process_after, queue_after, ending, acted}

@@ -8,17 +8,16 @@ use borrow.Author.Tests.{ltb-false}
 use lib.Dec.{ltb}
 use lib.ListN.{length, get_or, set, drop, get_or-map}
 use lib.Seq.{slice, slice-cons, slice_empty, set-get_or}
-use Rattle.desk.specs.declared.Answer.TheVariants as answers
+use Rattle.std.specs.Prelude.{Ok}
 use Rattle.desk.specs.Desk.{number_of, stage_of, desk_answer, desk_word, desk_slots}
 use Rattle.desk.proofs.DeskLaws.{row_done}
 use Rattle.word.specs.Range.{in_range}
 use Rattle.word.specs.Inner.InRange.{StageIn}
 use Rattle.word.proofs.RangeLaws.{range_in}
 use Rattle.word.specs.Stages.{is_idle}
-use Rattle.steps.specs.Step.{row_of, loaded_slot, loaded, stored, stage_after}
+use Rattle.steps.specs.Step.{row_of, loaded_slot, loaded, stored, stage_after, Stepped}
 use Rattle.word.specs.declared.Stage.{Stage}
 use Rattle.word.specs.declared.Stage.TheVariants.{Idle}
-use Rattle.steps.specs.declared.Stepped.{Stepped}
 use Rattle.word.specs.declared.Word.{Word}
 use Rattle.runfile.specs.Encode.{InRanges}
 use Rattle.runfile.specs.File.{RunFile}
@@ -75,7 +74,7 @@ module _ (f : RunFile) (h : InRanges f) (s : State) (v : Sound (sizes_of f) s) (
   desk_row : (q : ℕ) (z : Stage) → q < length f.shares → StageIn f.width f.size z
       → let w : Word = word_at (table_of s) q in
       let x : List ℕ = slots_at (table_of s) q in
-      (desk_answer f.width f.size w x z ≡ answers.Stepped (row q z).next) × (desk_word f.width f.size w x z ≡ (row q z).word)
+      (desk_answer f.width f.size w x z ≡ Ok (row q z).next) × (desk_word f.width f.size w x z ≡ (row q z).word)
       × (desk_slots f.width f.size w x z ≡ stored x (row q z).store)
   desk_row q z lt i =
       let W = f.width in
@@ -87,7 +86,7 @@ module _ (f : RunFile) (h : InRanges f) (s : State) (v : Sound (sizes_of f) s) (
         word = v.words q lt;
         stage = i;
       }) in
-      subst (λ (y : Word). (desk_answer W C y x z ≡ answers.Stepped (row q z).next) × (desk_word W C y x z ≡ (row q z).word)
+      subst (λ (y : Word). (desk_answer W C y x z ≡ Ok (row q z).next) × (desk_word W C y x z ≡ (row q z).word)
       × (desk_slots W C y x z ≡ stored x (row q z).store))
       (sym (word_at_lem q)) (row_done W C w x z e)
 
@@ -100,7 +99,7 @@ module _ (f : RunFile) (h : InRanges f) (s : State) (v : Sound (sizes_of f) s) (
     abbrev was : Note
     was = note_of f (process_at s.bench p)
 
-    the_answer : answer_to f.width f.size (table_of s) this ≡ answers.Stepped (row q z).next
+    the_answer : answer_to f.width f.size (table_of s) this ≡ Ok (row q z).next
     the_answer = (desk_row q z lt i).0
 
     note_after_lem : noted (note_at notes p) (answer_to f.width f.size (table_of s) this) ≡ note_after (stage_after (row q z).next) was.calls

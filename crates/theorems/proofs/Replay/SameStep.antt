@@ -5,12 +5,11 @@ use mathlib.Core.Logic.{inl, inr}
 use mathlib.Core.List.{[], ◌∷◌}
 use lib.ListN.{get_or}
 use lib.Seq.{get_or-set_same}
-use Rattle.steps.specs.Step.{stored, stepped_on}
-use Rattle.desk.specs.declared.Answer.TheVariants as answers
+use Rattle.steps.specs.Step.{stored, stepped_on, Stepped}
+use Rattle.std.specs.Prelude.{Ok}
 use Rattle.desk.specs.Desk.{result_of}
 use Rattle.steps.specs.declared.Next.{Next}
 use Rattle.steps.specs.declared.Next.TheVariants.{Going, Done, Node, Nil, Lost, Full}
-use Rattle.steps.specs.declared.Stepped.{Stepped}
 use Rattle.call_log.specs.declared.Entry.{Entry}
 use Rattle.base.proofs.Cases.{either_way}
 use Rattle.desk.proofs.DeskLaws.{row_done}
@@ -19,7 +18,7 @@ use Rattle.runs.specs.State.{Process, fresh, nobody, queue_at}
 use Rattle.runs.specs.Turn.{queue_after, process_after, act}
 use Rattle.theorems.specs.SameStep.{Tells, OneStep}
 
-same_result : (p n : ℕ) (r owner : Process) (t : ℕ) (x : Next) → Tells (result_of (answers.Stepped x)) (ended p n r owner t x)
+same_result : (p n : ℕ) (r owner : Process) (t : ℕ) (x : Next) → Tells (result_of (Ok x)) (ended p n r owner t x)
 same_result p n r owner t (Going y) = refl
 same_result p n r owner t Done = inl refl
 same_result p n r owner t (Node x) = either_way (λ (e : Entry). Tells (1 ∷ x ∷ []) (ends e)) (is_take r.call) (λ _. inr refl) (λ _. inr refl)

@@ -17,13 +17,12 @@ use Rattle.call_log.specs.declared.What.{What}
 use Rattle.call_log.specs.declared.What.TheVariants.{Pushed, Full, BottomNode, BottomNil, TopNode, TopNil, TopLost}
 use Rattle.base.proofs.Cases.{either_way, never, ever, if_eq, if_lt, if_le, if_set}
 use Rattle.base.proofs.Bools.{or_l}
-use Rattle.steps.specs.Step.{loaded_slot, loaded, stage_after}
+use Rattle.steps.specs.Step.{loaded_slot, loaded, stage_after, Stepped}
 use Rattle.steps.specs.declared.Next.{Next}
 use Rattle.steps.specs.declared.Next.TheVariants as next
 use Rattle.word.specs.Stages.{row_number}
 use Rattle.word.specs.declared.Stage.{Stage}
 use Rattle.word.specs.declared.Stage.TheVariants.{Idle, P1, P2, P3, T1, T2, T3, T4, B1, B2, B3, B4, B5, B6, B7}
-use Rattle.steps.specs.declared.Stepped.{Stepped}
 use Rattle.runs.specs.Moment.{queue_of, pushed_node, is_take}
 use Rattle.runs.specs.State.{Process, Queue, State, fresh, queue_at}
 use Rattle.runs.specs.Turn.{queue_after, ending, acted, idle}

@@ -11,14 +11,13 @@ use lib.ListN.{length, get_or, get_or-replicate}
 use lib.Pow.{pow_pos}
 use borrow.Author.Tests.{eq-eqb, leb-true, le-leb}
 use Rattle.word.specs.Stages.{row_number, at_t1}
-use Rattle.steps.specs.Step.{loaded_slot, loaded, same_age, leaves, resets, row_of, stage_after}
+use Rattle.steps.specs.Step.{loaded_slot, loaded, same_age, leaves, resets, row_of, stage_after, Stepped}
 use Rattle.base.proofs.Cases.{either_way, never, ever, if_set}
 use Rattle.word.proofs.TagLaws.{after_resets, equal_tags}
 use Rattle.steps.specs.declared.Next.{Next}
 use Rattle.steps.specs.declared.Next.TheVariants as next
 use Rattle.word.specs.declared.Stage.{Stage}
 use Rattle.word.specs.declared.Stage.TheVariants.{Idle, P1, P2, P3, T1, T2, T3, T4, B1, B2, B3, B4, B5, B6, B7}
-use Rattle.steps.specs.declared.Stepped.{Stepped}
 use Rattle.word.specs.declared.Word.{Word}
 use Rattle.runfile.specs.Encode.{InRanges}
 use Rattle.runfile.specs.File.{RunFile}

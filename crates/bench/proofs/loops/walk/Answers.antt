@@ -18,7 +18,7 @@ use Rattle.bench.specs.Inner.Layout.{record_in, state_in, sizes_in, fresh_held, 
 use Rattle.bench.specs.Inner.Walk.{walked_one}
 use Rattle.bench.specs.declared.Bench.{Bench}
 use Rattle.bench.specs.declared.turn.Told.{Told}
-use Rattle.steps.specs.declared.PackedStep.{PackedStep}
+use Rattle.steps.specs.Packed.{PackedStep}
 use Rattle.records.specs.declared.Process.{Process as HeldProcess}
 use Rattle.bench.proofs.LayoutLaws.{held_resets, held_b2}
 use Rattle.bench.proofs.WayLaws.{with_steps, same_b2, way_idle, on_queue, way_on, way_ends}
