@@ -3,7 +3,6 @@
 
 ghost use Rattle.std.specs.Prelude.{◌≤◌};
 
-use lines::{Line, Sizes};
 use word::{Stage, Word};
 
 mod answers; // what is printed
@@ -100,14 +99,14 @@ fn answer_line(rt: &HostRuntime, width: u8, size: u8, word: Word, slots: &mut [u
     }
     let line = lines::read_stage(&buffer[..n]);
     match line {
-        Line::Stage(stage) => {
+        Ok(stage) => {
             let after = step(rt, width, size, word, slots, stage);
             Turn {
                 on: true,
                 word: after,
             }
         }
-        Line::Wrong(why) => {
+        Err(why) => {
             answers::not_run(rt, why);
             Turn {
                 on: true,
@@ -155,11 +154,11 @@ fn opening(rt: &HostRuntime) -> bool {
     }
     let sizes = lines::read_sizes(&buffer[..n]);
     match sizes {
-        Sizes::Good { width, size } => {
-            steps(rt, width, size);
+        Ok(sizes) => {
+            steps(rt, sizes.width, sizes.size);
             false
         }
-        Sizes::Wrong(why) => {
+        Err(why) => {
             answers::not_opened(rt, why);
             true
         }

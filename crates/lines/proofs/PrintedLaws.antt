@@ -7,11 +7,11 @@ use native.Mathlib.Omega.{arith}
 use lib.Dec.{ltb}
 use lib.ListN.{get_or, drop}
 use Prim.Native.String.{String}
-use borrow.Author.Tests.{lt-ltb, le-ltb, ne_eqb}
+use borrow.Author.Tests.{le-ltb, ne_eqb}
 use Rattle.word.specs.Stages.{listed, row_number}
 use Rattle.word.specs.declared.Stage.{Stage}
 use Rattle.word.specs.declared.Stage.TheVariants.{Idle, P1, P2, P3, T1, T2, T3, T4, B1, B2, B3, B4, B5, B6, B7}
-use Rattle.lines.specs.declared.Line.TheVariants as line
+use Rattle.std.specs.Prelude.{Option, Some, Ok}
 use Rattle.words.specs.declared.Words.{Words}
 use Rattle.base.proofs.Cases.{if_lt}
 use Rattle.words.specs.Words.{blank, counted, fed, ended, words_of}
@@ -45,11 +45,11 @@ abbrev pub printed : Stage → List ℕ
 printed s = typed (name_of s) ++ spaced (numbers_of s)
 
 -- digits that follow one another, as a number after n
-abbrev counting : ℕ → List ℕ → ℕ
+abbrev counting : Option ℕ → List ℕ → Option ℕ
 counting n [] = n
 counting n (c ∷ s) = counting (counted n c) s
 
-counting_append : (n : ℕ) (s t : List ℕ) → counting n (s ++ t) ≡ counting (counting n s) t
+counting_append : (n : Option ℕ) (s t : List ℕ) → counting n (s ++ t) ≡ counting (counting n s) t
 counting_append n [] t = refl
 counting_append n (c ∷ s) t = counting_append (counted n c) s t
 
@@ -57,7 +57,7 @@ words_append : (w : Words) (s t : List ℕ) → words_of w (s ++ t) ≡ words_of
 words_append w [] t = refl
 words_append w (c ∷ s) t = words_append (fed w c) s t
 
-one_digit : (n d : ℕ) → d < 10 → 10 * n + d < 65536 → counted n (48 + d) ≡ 10 * n + d
+one_digit : (n d : ℕ) → d < 10 → 10 * n + d < 65536 → counted (Some n) (48 + d) ≡ Some (10 * n + d)
 one_digit n d h k =
     let e : 48 + d - 48 ≡ d = omega arith in
     rw (le-ltb (48 + d) 48 (omega arith), le-ltb 57 (48 + d) (omega arith), e, le-ltb 65535 (10 * n + d) (omega arith))
@@ -67,14 +67,14 @@ abbrev room : ℕ → ℕ
 room zero = 1
 room (suc k) = 10 * room k
 
-digits_count : (k n : ℕ) → n < room k → n < 65536 → counting 0 (digits k n) ≡ n
-digits_count zero n h l = omega arith
+digits_count : (k n : ℕ) → n < room k → n < 65536 → counting (Some 0) (digits k n) ≡ Some n
+digits_count zero n h l = ap Some (omega arith)
 digits_count (suc k) n h l =
-    let e : counting 0 (digits k (n / 10)) ≡ n / 10 = digits_count k (n / 10) (omega arith) (omega arith) in
-    counting_append 0 (digits k (n / 10)) ((48 + n % 10) ∷ [])
-    ∙ ap (λ (m : ℕ). counted m (48 + n % 10)) e
+    let e : counting (Some 0) (digits k (n / 10)) ≡ Some (n / 10) = digits_count k (n / 10) (omega arith) (omega arith) in
+    counting_append (Some 0) (digits k (n / 10)) ((48 + n % 10) ∷ [])
+    ∙ ap (λ (m : Option ℕ). counted m (48 + n % 10)) e
     ∙ one_digit (n / 10) (n % 10) (omega arith) (omega arith)
-    ∙ omega arith
+    ∙ ap Some (omega arith)
 
 -- bytes of a word: no blank among them
 abbrev Solid : List ℕ → Type 0
@@ -108,17 +108,17 @@ enough n h =
     Q k = (n < room k) × (digits k n ≡ [] → ⊥)
 
 -- a word that is counted in one place: `before` it, and `put n` once its number is n
-module _ (before : Words) (put : ℕ → Words) (begun : (c : ℕ) → blank c ≡ false → fed before c ≡ put (counted 0 c))
-    (more : (n c : ℕ) → blank c ≡ false → fed (put n) c ≡ put (counted n c)) where
-  rest : (n : ℕ) (s : List ℕ) → Solid s → words_of (put n) s ≡ put (counting n s)
+module _ (before : Words) (put : Option ℕ → Words) (begun : (c : ℕ) → blank c ≡ false → fed before c ≡ put (counted (Some 0) c))
+    (more : (n : Option ℕ) (c : ℕ) → blank c ≡ false → fed (put n) c ≡ put (counted n c)) where
+  rest : (n : Option ℕ) (s : List ℕ) → Solid s → words_of (put n) s ≡ put (counting n s)
   rest n [] h = refl
   rest n (c ∷ s) h = ap (λ (w : Words). words_of w s) (more n c h.0) ∙ rest (counted n c) s h.1
 
-  word : (s : List ℕ) → Solid s → (s ≡ [] → ⊥) → words_of before s ≡ put (counting 0 s)
+  word : (s : List ℕ) → Solid s → (s ≡ [] → ⊥) → words_of before s ≡ put (counting (Some 0) s)
   word [] h k = absurd (k refl)
-  word (c ∷ s) h k = ap (λ (w : Words). words_of w s) (begun c h.0) ∙ rest (counted 0 c) s h.1
+  word (c ∷ s) h k = ap (λ (w : Words). words_of w s) (begun c h.0) ∙ rest (counted (Some 0) c) s h.1
 
-  number : (n : ℕ) → n < 65536 → (t : List ℕ) → words_of before (digits (places n) n ++ t) ≡ words_of (put n) t
+  number : (n : ℕ) → n < 65536 → (t : List ℕ) → words_of before (digits (places n) n ++ t) ≡ words_of (put (Some n)) t
   number n h t =
       let p = enough n h in
       words_append before (digits (places n) n) t
@@ -126,58 +126,60 @@ module _ (before : Words) (put : ℕ → Words) (begun : (c : ℕ) → blank c �
       (word (digits (places n) n) (solid_digits (places n) n) p.1 ∙ ap put (digits_count (places n) n p.0 h))
 
 -- so many words read, the last of them just read, or a blank after it too
-abbrev at : ℕ → ℕ → ℕ → ℕ → ℕ → ℕ → Words
-at count name a b c d = record { inside = true; count = count; name = name; a = a; b = b; c = c; d = d }
+abbrev at : ℕ → ℕ → Option ℕ → Option ℕ → Option ℕ → Option ℕ → Words
+at count name a b c d = record { inside = true; count = count; name = name; numbers = a ∷ b ∷ c ∷ d ∷ [] }
 
-abbrev gap : ℕ → ℕ → ℕ → ℕ → ℕ → ℕ → Words
+abbrev gap : ℕ → ℕ → Option ℕ → Option ℕ → Option ℕ → Option ℕ → Words
 gap count name a b c d = ended (at count name a b c d)
 
+-- no digit yet
+abbrev fresh : Option ℕ
+fresh = Some 0
+
 module _ (name a : ℕ) (ha : a < 65536) where
-  one : (t : List ℕ) → words_of (gap 1 name 0 0 0 0) (digits (places a) a ++ t) ≡ words_of (at 2 name a 0 0 0) t
-  one = number (gap 1 name 0 0 0 0) (λ (n : ℕ). at 2 name n 0 0 0) (λ c e. rw e) (λ n c e. rw e) a ha
+  one : (t : List ℕ) → words_of (gap 1 name fresh fresh fresh fresh) (digits (places a) a ++ t) ≡ words_of (at 2 name (Some a) fresh fresh fresh) t
+  one = number (gap 1 name fresh fresh fresh fresh) (λ (n : Option ℕ). at 2 name n fresh fresh fresh) (λ c e. rw e) (λ n c e. rw e) a ha
 
   module _ (b : ℕ) (hb : b < 65536) where
-    two : (t : List ℕ) → words_of (gap 1 name 0 0 0 0) (digits (places a) a ++ 32 ∷ (digits (places b) b ++ t)) ≡ words_of (at 3 name a b 0 0) t
-    two t = one _ ∙ number (gap 2 name a 0 0 0) (λ (n : ℕ). at 3 name a n 0 0) (λ c e. rw e) (λ n c e. rw e) b hb t
+    two : (t : List ℕ) → words_of (gap 1 name fresh fresh fresh fresh) (digits (places a) a ++ 32 ∷ (digits (places b) b ++ t))
+        ≡ words_of (at 3 name (Some a) (Some b) fresh fresh) t
+    two t =
+        one _
+        ∙ number (gap 2 name (Some a) fresh fresh fresh) (λ (n : Option ℕ). at 3 name (Some a) n fresh fresh) (λ c e. rw e) (λ n c e. rw e) b hb t
 
     module _ (c : ℕ) (hc : c < 65536) where
-      three : (t : List ℕ) → words_of (gap 1 name 0 0 0 0) (digits (places a) a ++ 32 ∷ (digits (places b) b ++ 32 ∷ (digits (places c) c ++ t)))
-          ≡ words_of (at 4 name a b c 0) t
-      three t = two _ ∙ number (gap 3 name a b 0 0) (λ (n : ℕ). at 4 name a b n 0) (λ c e. rw e) (λ n c e. rw e) c hc t
+      three : (t : List ℕ)
+          → words_of (gap 1 name fresh fresh fresh fresh) (digits (places a) a ++ 32 ∷ (digits (places b) b ++ 32 ∷ (digits (places c) c ++ t)))
+          ≡ words_of (at 4 name (Some a) (Some b) (Some c) fresh) t
+      three t =
+          two _
+          ∙ number (gap 3 name (Some a) (Some b) fresh fresh) (λ (n : Option ℕ). at 4 name (Some a) (Some b) n fresh) (λ c e. rw e) (λ n c e. rw e) c hc t
 
       four : (d : ℕ) → d < 65536
-          → words_of (gap 1 name 0 0 0 0)
+          → words_of (gap 1 name fresh fresh fresh fresh)
           (digits (places a) a ++ 32 ∷ (digits (places b) b ++ 32 ∷ (digits (places c) c ++ 32 ∷ (digits (places d) d ++ []))))
-          ≡ at 5 name a b c d
-      four d hd = three _ ∙ number (gap 4 name a b c 0) (λ (n : ℕ). at 5 name a b c n) (λ c e. rw e) (λ n c e. rw e) d hd []
+          ≡ at 5 name (Some a) (Some b) (Some c) (Some d)
+      four d hd =
+          three _
+          ∙ number (gap 4 name (Some a) (Some b) (Some c) fresh) (λ (n : Option ℕ). at 5 name (Some a) (Some b) (Some c) n) (λ c e. rw e) (λ n c e. rw e) d hd []
 
 -- the name of a stage, as its letters spell it
 abbrev spelt : Stage → ℕ
 spelt s = spelling 1 (typed (name_of s))
 
-pub read_back : (s : Stage) → All Two (numbers_of s) → line_of (printed s) ≡ line.Stage s
+pub read_back : (s : Stage) → All Two (numbers_of s) → line_of (printed s) ≡ Ok s
 read_back Idle h = refl
 read_back T1 h = refl
 read_back B1 h = refl
-read_back (P1 a) h = ap line_in (one (spelt (P1 a)) a h.0 []) ∙ rw (lt-ltb _ _ h.0)
-read_back (P3 a) h = ap line_in (one (spelt (P3 a)) a h.0 []) ∙ rw (lt-ltb _ _ h.0)
-read_back (B2 a) h = ap line_in (one (spelt (B2 a)) a h.0 []) ∙ rw (lt-ltb _ _ h.0)
-read_back (B3 a) h = ap line_in (one (spelt (B3 a)) a h.0 []) ∙ rw (lt-ltb _ _ h.0)
-read_back (P2 a b) h = ap line_in (two (spelt (P2 a b)) a h.0 b h.1.0 []) ∙ rw (lt-ltb _ _ h.0, lt-ltb _ _ h.1.0)
-read_back (T2 a b) h = ap line_in (two (spelt (T2 a b)) a h.0 b h.1.0 []) ∙ rw (lt-ltb _ _ h.0, lt-ltb _ _ h.1.0)
-read_back (B4 a b) h = ap line_in (two (spelt (B4 a b)) a h.0 b h.1.0 []) ∙ rw (lt-ltb _ _ h.0, lt-ltb _ _ h.1.0)
-read_back (T3 a b c) h =
-    ap line_in (three (spelt (T3 a b c)) a h.0 b h.1.0 c h.1.1.0 [])
-    ∙ rw (lt-ltb _ _ h.0, lt-ltb _ _ h.1.0, lt-ltb _ _ h.1.1.0)
-read_back (T4 a b c d) h =
-    ap line_in (four (spelt (T4 a b c d)) a h.0 b h.1.0 c h.1.1.0 d h.1.1.1.0)
-    ∙ rw (lt-ltb _ _ h.0, lt-ltb _ _ h.1.0, lt-ltb _ _ h.1.1.0, lt-ltb _ _ h.1.1.1.0)
-read_back (B5 a b c d) h =
-    ap line_in (four (spelt (B5 a b c d)) a h.0 b h.1.0 c h.1.1.0 d h.1.1.1.0)
-    ∙ rw (lt-ltb _ _ h.0, lt-ltb _ _ h.1.0, lt-ltb _ _ h.1.1.0, lt-ltb _ _ h.1.1.1.0)
-read_back (B6 a b c d) h =
-    ap line_in (four (spelt (B6 a b c d)) a h.0 b h.1.0 c h.1.1.0 d h.1.1.1.0)
-    ∙ rw (lt-ltb _ _ h.0, lt-ltb _ _ h.1.0, lt-ltb _ _ h.1.1.0, lt-ltb _ _ h.1.1.1.0)
-read_back (B7 a b c d) h =
-    ap line_in (four (spelt (B7 a b c d)) a h.0 b h.1.0 c h.1.1.0 d h.1.1.1.0)
-    ∙ rw (lt-ltb _ _ h.0, lt-ltb _ _ h.1.0, lt-ltb _ _ h.1.1.0, lt-ltb _ _ h.1.1.1.0)
+read_back (P1 a) h = ap line_in (one (spelt (P1 a)) a h.0 [])
+read_back (P3 a) h = ap line_in (one (spelt (P3 a)) a h.0 [])
+read_back (B2 a) h = ap line_in (one (spelt (B2 a)) a h.0 [])
+read_back (B3 a) h = ap line_in (one (spelt (B3 a)) a h.0 [])
+read_back (P2 a b) h = ap line_in (two (spelt (P2 a b)) a h.0 b h.1.0 [])
+read_back (T2 a b) h = ap line_in (two (spelt (T2 a b)) a h.0 b h.1.0 [])
+read_back (B4 a b) h = ap line_in (two (spelt (B4 a b)) a h.0 b h.1.0 [])
+read_back (T3 a b c) h = ap line_in (three (spelt (T3 a b c)) a h.0 b h.1.0 c h.1.1.0 [])
+read_back (T4 a b c d) h = ap line_in (four (spelt (T4 a b c d)) a h.0 b h.1.0 c h.1.1.0 d h.1.1.1.0)
+read_back (B5 a b c d) h = ap line_in (four (spelt (B5 a b c d)) a h.0 b h.1.0 c h.1.1.0 d h.1.1.1.0)
+read_back (B6 a b c d) h = ap line_in (four (spelt (B6 a b c d)) a h.0 b h.1.0 c h.1.1.0 d h.1.1.1.0)
+read_back (B7 a b c d) h = ap line_in (four (spelt (B7 a b c d)) a h.0 b h.1.0 c h.1.1.0 d h.1.1.1.0)

@@ -1,24 +1,23 @@
 -- Lines, each with what it says, computed on the definitions that the readers are proved to follow.
-use Rattle.std.specs.Prelude.{List, [], ◌∷◌, map, replicate, ◌≡◌, refl}
+use Rattle.std.specs.Prelude.{ℕ, List, [], ◌∷◌, map, replicate, Result, Ok, Err, ◌≡◌, refl}
 use Prim.Native.String.{String}
 use Rattle.word.specs.declared.Stage.{Stage}
 use Rattle.word.specs.declared.Stage.TheVariants.{Idle, P1, P2, P3, T1, T2, T3, T4, B1, B2, B3, B4, B5, B6, B7}
-use Rattle.lines.specs.{Line.typed, Line.line_of, Line.sizes_of, declared.Line.Line, declared.Why.Why, declared.Sizes.Sizes}
+use Rattle.word.specs.declared.Sizes.{Sizes}
+use Rattle.lines.specs.{Line.typed, Line.line_of, Line.sizes_of, declared.Why.Why}
 use Rattle.lines.specs.declared.Why.TheVariants.{Nothing, NoStage, Count, NoNumber}
 use Rattle.lines.specs.declared.SizesWhy.{SizesWhy}
-use Rattle.lines.specs.declared.Line.TheVariants as line
-use Rattle.lines.specs.declared.Sizes.TheVariants as sizes
 use Rattle.lines.specs.declared.SizesWhy.TheVariants as sizes_why
 
 -- texts that say stages, and texts that are wrong
-abbrev said : List String → List Line
+abbrev said : List String → List (Result Stage Why)
 said = map (λ (s : String). line_of (typed s))
 
-abbrev stages : List Stage → List Line
-stages = map (λ (z : Stage). line.Stage z)
+abbrev stages : List Stage → List (Result Stage Why)
+stages = map (λ (z : Stage). Ok z)
 
-abbrev wrongs : List Why → List Line
-wrongs = map (λ (w : Why). line.Wrong w)
+abbrev wrongs : List Why → List (Result Stage Why)
+wrongs = map (λ (w : Why). Err w)
 
 worked :
     -- the fifteen stages
@@ -40,15 +39,18 @@ worked :
     × (said ("" ∷ " \t\r" ∷ []) ≡ wrongs (replicate 2 Nothing))
 worked = (refl, refl, refl, refl, refl, refl, refl, refl, refl, refl, refl, refl, refl)
 
-abbrev read : List String → List Sizes
+abbrev read : List String → List (Result Sizes SizesWhy)
 read = map (λ (s : String). sizes_of (typed s))
 
-abbrev wrong : List SizesWhy → List Sizes
-wrong = map (λ (w : SizesWhy). sizes.Wrong w)
+abbrev wrong : List SizesWhy → List (Result Sizes SizesWhy)
+wrong = map (λ (w : SizesWhy). Err w)
+
+abbrev good : ℕ → ℕ → Result Sizes SizesWhy
+good W C = Ok record { width = W; size = C }
 
 -- W is 0 to 16, C 1 to 64
 pub sizes_worked :
-    (read ("8 4" ∷ " 0\t1 \r" ∷ "16 64" ∷ []) ≡ sizes.Good 8 4 ∷ sizes.Good 0 1 ∷ sizes.Good 16 64 ∷ [])
+    (read ("8 4" ∷ " 0\t1 \r" ∷ "16 64" ∷ []) ≡ good 8 4 ∷ good 0 1 ∷ good 16 64 ∷ [])
     × (read ("-1 4" ∷ "17 4" ∷ "x 4" ∷ "65552 4" ∷ []) ≡ wrong (replicate 4 sizes_why.Width))
     × (read ("8 0" ∷ "8 65" ∷ "8 4x" ∷ "8 65600" ∷ []) ≡ wrong (replicate 4 sizes_why.Size))
     × (read ("8" ∷ "8 4 2" ∷ "1 2 3 4 5 6 7 8 9" ∷ []) ≡ wrong (replicate 3 sizes_why.NotTwo))

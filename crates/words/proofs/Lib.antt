@@ -1,3 +1,2 @@
--- A line byte by byte; and that the promises settle their answers.
-pub mod WordLaws
+-- That the promises settle their answers.
 pub mod Settled

@@ -1,5 +1,5 @@
--- The words of a line stand apart by blanks; a number is 0 to 65,535, and 65,536 stands for a word that is none.
-use Rattle.std.specs.Prelude.{ℕ, ◌+◌, ◌-◌, ◌*◌, Bool, true, false, cond, ◌&&◌, ◌||◌, ltb, eqb, List, [], ◌∷◌}
+-- The words of a line stand apart by blanks; a number is 0 to 65,535, and none for a word that is no such number.
+use Rattle.std.specs.Prelude.{ℕ, ◌+◌, ◌-◌, ◌*◌, Bool, true, false, cond, ◌&&◌, ◌||◌, ltb, leb, eqb, List, [], ◌∷◌, get_or, set, replicate, Option, Some, None, is_some}
 use Rattle.words.specs.declared.Words.{Words}
 
 -- a space, a tab or a carriage return
@@ -15,8 +15,9 @@ abbrev pub spelled : ℕ → ℕ → ℕ
 spelled name c = cond (ltb name 1099511627776) (256 * name + capital c) name
 
 -- a number with one digit more
-abbrev pub counted : ℕ → ℕ → ℕ
-counted n c = cond (ltb c 48) 65536 (cond (ltb 57 c) 65536 (cond (ltb 65535 (10 * n + (c - 48))) 65536 (10 * n + (c - 48))))
+abbrev pub counted : Option ℕ → ℕ → Option ℕ
+counted None c = None
+counted (Some n) c = cond (ltb c 48) None (cond (ltb 57 c) None (cond (ltb 65535 (10 * n + (c - 48))) None (Some (10 * n + (c - 48)))))
 
 -- which word a byte that is no blank belongs to, the sixth and all after it as one
 abbrev pub word_at : Bool → ℕ → ℕ
@@ -28,27 +29,30 @@ longer w at c = record {
   inside = true;
   count = at;
   name = cond (eqb at 1) (spelled w.name c) w.name;
-  a = cond (eqb at 2) (counted w.a c) w.a;
-  b = cond (eqb at 3) (counted w.b c) w.b;
-  c = cond (eqb at 4) (counted w.c c) w.c;
-  d = cond (eqb at 5) (counted w.d c) w.d;
+  numbers = cond (leb 2 at && leb at 5) (set w.numbers (at - 2) (counted (get_or w.numbers (at - 2) None) c)) w.numbers;
 }
 
 abbrev pub ended : Words → Words
-ended w = record { inside = false; count = w.count; name = w.name; a = w.a; b = w.b; c = w.c; d = w.d }
+ended w = record { inside = false; count = w.count; name = w.name; numbers = w.numbers }
 
 abbrev pub fed : Words → ℕ → Words
 fed w c = cond (blank c) (ended w) (longer w (word_at w.inside w.count) c)
 
 abbrev pub start : ℕ → Words
-start before = record { inside = false; count = before; name = 1; a = 0; b = 0; c = 0; d = 0 }
+start before = record { inside = false; count = before; name = 1; numbers = replicate 4 (Some 0) }
 
 abbrev pub words_of : Words → List ℕ → Words
 words_of w [] = w
 words_of w (c ∷ s) = words_of (fed w c) s
 
-abbrev pub small : ℕ → ℕ
-small n = cond (ltb n 65536) n 0
-
+-- all four are numbers
 abbrev pub numbers : Words → Bool
-numbers w = ((ltb w.a 65536 && ltb w.b 65536) && ltb w.c 65536) && ltb w.d 65536
+numbers w = ((number 0 && number 1) && number 2) && number 3
+  where
+    number : ℕ → Bool
+    number i = is_some (get_or w.numbers i None)
+
+-- a number, and 0 for none
+abbrev pub small : Option ℕ → ℕ
+small None = 0
+small (Some n) = n

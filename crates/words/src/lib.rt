@@ -1,118 +1,91 @@
 // The words of a line: how many they are, what the first one spells, and the next four as numbers. Words stand apart by blanks.
 #![tactic(auto)]
 
-ghost use Rattle.std.specs.Prelude.{◌≡◌};
-ghost use Rattle.words.specs.Words.{blank, capital as capital_of, spelled, counted, word_at, fed, start, words_of, small, numbers};
-
-// What stands for a word that is no number from 0 to 65,535.
-const NO_NUMBER: u32 = 65536;
+ghost use Rattle.std.specs.Prelude.{◌≡◌, map};
+ghost use Rattle.words.specs.Words.{blank, spelled, counted, word_at, fed, start, words_of, numbers, small};
 
 // What is known of a line's words so far: whether its last byte is in a word, how many have begun (6 for more), the name that the first spells,
-// and the four after it as numbers.
+// and the four after it as numbers: none where a word is no number from 0 to 65,535, and 0 where no word has begun.
 #[derive(Clone, Copy)]
 pub struct Words {
     pub inside: bool,
     pub count: u8,
     pub name: u64,
-    pub a: u32,
-    pub b: u32,
-    pub c: u32,
-    pub d: u32,
+    pub numbers: [Option<u16>; 4],
 }
 
 // A space, a tab, or the carriage return that some terminals put at the end.
 fn is_blank(byte: u8) -> bool
     ensures { result ≡ blank byte }
 {
-    (byte == b' ') | (byte == b'\t') | (byte == b'\r')
+    matches!(byte, b' ' | b'\t' | b'\r')
 }
 
-// A letter as a capital, for a name may be typed in small letters.
-fn capital(byte: u8) -> u8
-    ensures { result ≡ capital_of byte }
-{
-    if byte < b'a' {
-        return byte;
-    }
-    if b'z' < byte { byte } else { byte - 32 }
-}
-
-// The name with one letter more, in base 256; from 1 on, so that a byte 0 counts. Five letters are no stage's name, and more need not be kept.
+// The name with one letter more, in base 256; from 1 on, so that a byte 0 counts. A letter may be typed small. Five letters are no stage's name, and
+// more need not be kept.
 fn spell(name: u64, byte: u8) -> u64
     ensures { result ≡ spelled name byte }
 {
     if name < 0x10000000000 {
-        256 * name + u64::from(capital(byte))
+        256 * name + u64::from(byte.to_ascii_uppercase())
     } else {
         name
     }
 }
 
 // The number with one digit more.
-fn count(n: u32, byte: u8) -> u32
-    ensures { result ≡ counted n byte }
+fn count(number: Option<u16>, byte: u8) -> Option<u16>
+    ensures { result ≡ counted number byte }
 {
-    if byte < b'0' {
-        return NO_NUMBER;
+    if !byte.is_ascii_digit() {
+        return None;
     }
-    if b'9' < byte {
-        return NO_NUMBER;
-    }
-    if 65535 < n {
-        return NO_NUMBER;
-    }
-    let digit = byte - b'0';
-    let longer = 10 * n + u32::from(digit);
-    if 65535 < longer { NO_NUMBER } else { longer }
+    let digit = u16::from(byte - b'0');
+    number?.checked_mul(10)?.checked_add(digit)
 }
 
-// Which word a byte that is no blank belongs to.
-fn word_at(inside: bool, count: u8) -> u8
-    ensures { result ≡ word_at inside count }
-{
-    if inside {
-        return count;
+impl Words {
+    // Which word a byte that is no blank belongs to.
+    fn word_at(&self) -> u8
+        ensures { result ≡ word_at self.now.inside self.now.count }
+    {
+        if self.inside {
+            self.count
+        } else {
+            self.count.saturating_add(1).min(6)
+        }
     }
-    if count < 6 { count + 1 } else { 6 }
-}
 
-fn feed(words: Words, byte: u8) -> Words
-    ensures { result ≡ fed words byte }
-{
-    if is_blank(byte) {
-        return Words {
-            inside: false,
-            ..words
-        };
+    fn feed(&mut self, byte: u8)
+        ensures { self.new ≡ fed self.old byte }
+    {
+        if is_blank(byte) {
+            self.inside = false;
+            return;
+        }
+        self.count = self.word_at();
+        self.inside = true;
+        match self.count {
+            1 => self.name = spell(self.name, byte),
+            at @ 2..=5 => {
+                let number = &mut self.numbers[usize::from(at) - 2];
+                *number = count(*number, byte);
+            }
+            _ => {}
+        }
     }
-    let at = word_at(words.inside, words.count);
-    let begun = Words {
-        inside: true,
-        count: at,
-        ..words
-    };
-    match at {
-        1 => Words {
-            name: spell(words.name, byte),
-            ..begun
-        },
-        2 => Words {
-            a: count(words.a, byte),
-            ..begun
-        },
-        3 => Words {
-            b: count(words.b, byte),
-            ..begun
-        },
-        4 => Words {
-            c: count(words.c, byte),
-            ..begun
-        },
-        5 => Words {
-            d: count(words.d, byte),
-            ..begun
-        },
-        _ => begun,
+
+    pub fn all_numbers(self) -> bool
+        ensures { result ≡ numbers self }
+    {
+        matches!(self.numbers, [Some(_), Some(_), Some(_), Some(_)])
+    }
+
+    // The four numbers, with 0 for a word that is none.
+    pub fn values(self) -> [u16; 4]
+        ensures { result ≡ map small self.numbers }
+    {
+        self.numbers.map(|number| number.unwrap_or(0))
     }
 }
 
@@ -124,27 +97,10 @@ pub fn words_of(line: &[u8], before: u8) -> Words
         inside: false,
         count: before,
         name: 1,
-        a: 0,
-        b: 0,
-        c: 0,
-        d: 0,
+        numbers: [Some(0); 4],
     };
-    let mut i: usize = 0;
-    while i < line.len() {
-        words = feed(words, line[i]);
-        i = i + 1;
+    for &byte in line {
+        words.feed(byte);
     }
     words
-}
-
-pub fn small_of(n: u32) -> u16
-    ensures { result ≡ small n }
-{
-    if n < NO_NUMBER { n as u16 } else { 0 }
-}
-
-pub fn all_numbers(words: Words) -> bool
-    ensures { result ≡ numbers words }
-{
-    (words.a < NO_NUMBER) & (words.b < NO_NUMBER) & (words.c < NO_NUMBER) & (words.d < NO_NUMBER)
 }
