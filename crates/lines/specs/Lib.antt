@@ -2,3 +2,5 @@
 pub mod Line
 -- Computed: lines.
 pub mod Worked
+-- Why a line is not run, as it is said.
+pub mod Shown

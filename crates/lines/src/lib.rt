@@ -4,6 +4,8 @@
 ghost use Rattle.std.specs.Prelude.{◌≡◌};
 ghost use Rattle.lines.specs.Line.{taken as taken_as, bottom_of, top_of, stage_of, line_of, sizes_of};
 
+mod shown; // why a line is not run, as it is said
+
 use word::{Sizes, Stage};
 use words::{Words, words_of};
 

@@ -4,3 +4,5 @@ pub mod Step
 pub mod Packed
 -- The table at its edges, computed.
 pub mod Worked
+-- What follows a step, as it is printed.
+pub mod Shown

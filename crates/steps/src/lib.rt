@@ -2,6 +2,7 @@
 #![tactic(auto)]
 
 mod age; // top and tag in one word
+mod shown; // what follows a step, as it is printed
 mod tag; // the next tag, which goes round
 
 use word::{Stage, Word};

@@ -1,6 +1,7 @@
 // The control word of one queue, and the stages of a process.
 #![tactic(auto)]
 
+mod shown; // a stage as it is typed
 pub mod stages; // where a stage stands
 
 // The control word of one queue: bottom, and the age of top and tag.
