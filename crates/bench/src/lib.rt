@@ -14,7 +14,6 @@ mod loops; // the schedule and the closing
 mod table; // the final table
 mod turn; // one step of a run, through the step of the queue
 
-use call_log::Entry;
 pub use records::TABLE_SIZE;
 use records::{ALL_SLOTS, Process, refuse};
 use runfile::{Reading, Shape};
@@ -32,13 +31,6 @@ pub struct Bench {
     pub entries: u16,
     pub steps: u16,
     pub gone: u16,
-}
-
-// What a step gives the log: nothing, or the entry of the call that it ended.
-#[derive(Clone, Copy)]
-pub enum Ended {
-    Nothing,
-    Call(Entry),
 }
 
 // Writes the head of the log before the entries in the buffer, the counts and the table.

@@ -4,7 +4,6 @@ ghost use Rattle.records.specs.Inner.Records.{process_in};
 ghost use Rattle.bench.specs.Inner.Layout.{ended_in};
 ghost use Rattle.runs.specs.Moment.{pushed_node, entry as entry_of, nil_moment, take_moment, node_entry, nil_entry, ended as ended_of};
 
-use crate::Ended;
 use call_log::{Entry, What};
 use records::{Process, is_take, queue_of};
 use runfile::Call;
@@ -89,18 +88,18 @@ fn nil_entry(p: u8, n: u16, of: Process) -> Entry
 }
 
 // What step n of process p ends: of is its record, owner that of its queue's owner, and t the queue's top, all before the step.
-pub(crate) fn ended(p: u8, n: u16, of: Process, owner: Process, t: u16, next: Next) -> Ended
+pub(crate) fn ended(p: u8, n: u16, of: Process, owner: Process, t: u16, next: Next) -> Option<Entry>
     requires { (n ≤ 8191) × (of.b2 ≤ 8191) × (owner.b2 ≤ 8191) }
     ensures { ended_in result ≡ ended_of p n (process_in of) (process_in owner) t next }
 {
     let call = of.call;
     let node = pushed_node(call);
     match next {
-        Next::Going(_) => Ended::Nothing,
-        Next::Done => Ended::Call(entry(p, n, of, What::Pushed, node, 2 * n)),
-        Next::Node(x) => Ended::Call(node_entry(p, n, of, owner, t, x)),
-        Next::Nil => Ended::Call(nil_entry(p, n, of)),
-        Next::Lost => Ended::Call(entry(p, n, of, What::TopLost, 0, call_log::NO_MOMENT)),
-        Next::Full => Ended::Call(entry(p, n, of, What::Full, node, call_log::NO_MOMENT)),
+        Next::Going(_) => None,
+        Next::Done => Some(entry(p, n, of, What::Pushed, node, 2 * n)),
+        Next::Node(x) => Some(node_entry(p, n, of, owner, t, x)),
+        Next::Nil => Some(nil_entry(p, n, of)),
+        Next::Lost => Some(entry(p, n, of, What::TopLost, 0, call_log::NO_MOMENT)),
+        Next::Full => Some(entry(p, n, of, What::Full, node, call_log::NO_MOMENT)),
     }
 }

@@ -4,7 +4,8 @@ ghost use Rattle.records.specs.Inner.Records.{process_in};
 ghost use Rattle.bench.specs.Inner.Layout.{all_slots, ended_in, put_entries, StepsIn, Tells};
 ghost use Rattle.runs.specs.Turn.{entries_in};
 
-use crate::{Ended, moment};
+use crate::moment;
+use call_log::Entry;
 use records::{Process, gone_round, if_so, slots_place};
 use steps::{PackedStep, PackedWord};
 
@@ -27,13 +28,13 @@ pub(crate) fn step_slots(
 }
 
 // Puts what a step ended after the n entries of the log, and gives how many entries that is.
-fn keep(log: &mut [u8], n: u16, over: Ended) -> u16
+fn keep(log: &mut [u8], n: u16, over: Option<Entry>) -> u16
     ensures { (log.new ≡ put_entries n (entries_in (ended_in over)) log.old) × (result ≡ length (entries_in (ended_in over))) }
 {
     let at = call_log::length_of(n);
     match over {
-        Ended::Nothing => 0,
-        Ended::Call(entry) => {
+        None => 0,
+        Some(entry) => {
             call_log::put_entry(log, at, entry);
             1
         }

@@ -1,6 +1,6 @@
 -- How a state lies in the program: in its structs, with top and tag in one word, all queues' slots in one row, C for each queue, and the log as
 -- its bytes.
-use Rattle.std.specs.Prelude.{ℕ, suc, ◌+◌, ◌*◌, ◌/◌, ◌%◌, ◌≤◌, ◌<◌, ◌≡◌, cond, List, [], ◌∷◌, length, get_or, take, drop, set}
+use Rattle.std.specs.Prelude.{ℕ, suc, ◌+◌, ◌*◌, ◌/◌, ◌%◌, ◌≤◌, ◌<◌, ◌≡◌, cond, List, [], ◌∷◌, length, get_or, take, drop, set, Option, None, Some}
 use Rattle.base.specs.Bytes.{put_at}
 use Rattle.base.specs.Lists.{list_of}
 use Rattle.call_log.specs.Decode.{log_length}
@@ -23,8 +23,6 @@ use Rattle.runs.specs.Inner.Left.{total}
 use Rattle.runs.specs.Run.{table_row_length, in_table}
 use Rattle.runs.specs.Turn.{entries_in}
 use Rattle.bench.specs.declared.Bench.{Bench as HeldBench}
-use Rattle.bench.specs.declared.Ended.{Ended as HeldEnded}
-use Rattle.bench.specs.declared.Ended.TheVariants as held
 use Rattle.records.specs.Inner.Records.{process_in, slots_place}
 use Rattle.records.specs.declared.Process.{Process as HeldProcess}
 use Rattle.bench.specs.declared.turn.Told.{Told}
@@ -46,9 +44,9 @@ process_at_in l p = process_in (get_or l p idle_held)
 abbrev pub record_in : HeldBench → ℕ → Process
 record_in b p = process_at_in b.processes p
 
-abbrev pub ended_in : HeldEnded → Ended
-ended_in held.Nothing = Nothing
-ended_in (held.Call e) = ends e
+abbrev pub ended_in : Option Entry → Ended
+ended_in None = Nothing
+ended_in (Some e) = ends e
 
 abbrev pub bench_in : HeldBench → Bench
 bench_in b = record { queues = list_of queue_count (queue_in b); processes = list_of queue_count (record_in b); steps = b.steps; gone = b.gone }
