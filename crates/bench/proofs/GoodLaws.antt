@@ -19,7 +19,9 @@ use Rattle.runfile.proofs.GoodLaws.{good_passes, shares_length, all_calls_length
 use Rattle.runfile.proofs.RangeLaws.{good_ranges}
 use Rattle.runfile.proofs.ReadingLaws.{reading_good, reading_refused}
 use Rattle.runfile.specs.declared.Call.{Call}
-use Rattle.runfile.specs.declared.Reading.TheVariants.{Refused, Good}
+use Rattle.std.specs.Prelude.{Ok, Err}
+use Rattle.runfile.specs.declared.Refusal.{Refusal}
+use Rattle.runfile.specs.Refusals.{refusal_number}
 use Rattle.runfile.specs.declared.Shape.{Shape}
 use Rattle.runs.proofs.ClosingLaws.{schedule_steps, played_sixes}
 use Rattle.runs.proofs.EntriesLaws.{start_bounded, played_bounded, entries_most}
@@ -130,7 +132,7 @@ slots_start C h =
     row q k = zeros C (C * q) 512 (row_in C q h k)
 
 -- of the bytes of a good file
-module _ (s : List ℕ) (bytes : Bytes s) (shape : Shape) (e : reading_of (file_of s) ≡ Good shape) where
+module _ (s : List ℕ) (bytes : Bytes s) (shape : Shape) (e : reading_of (file_of s) ≡ Ok shape) where
   abbrev f : RunFile
   f = record_in s
 
@@ -317,6 +319,6 @@ module _ (s : List ℕ) (bytes : Bytes s) (shape : Shape) (e : reading_of (file_
       ∙ ap (λ (t : Bool). cond t (refusal 8) (finished f (closed f))) (lt-ltb (length buffer) (5 + 12 * length f.calls) (omega arith))
 
 -- of the bytes of a refused file
-pub gives_refused : (s : List ℕ) (n room : ℕ) → reading_of (file_of s) ≡ Refused n → run_of s room ≡ refusal n
+pub gives_refused : (s : List ℕ) (why : Refusal) (room : ℕ) → reading_of (file_of s) ≡ Err why → run_of s room ≡ refusal (refusal_number why)
 unfolding run_of outcome
-gives_refused s n room e = ap (outcome room) (reading_refused s n e)
+gives_refused s why room e = ap (outcome room) (reading_refused s why e)

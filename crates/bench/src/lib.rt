@@ -16,7 +16,7 @@ mod turn; // one step of a run, through the step of the queue
 
 pub use records::TABLE_SIZE;
 use records::{ALL_SLOTS, Process, refuse};
-use runfile::{Reading, Shape};
+use runfile::{Refusal, Shape};
 use steps::PackedWord;
 
 // The rounds of the closing at most: eight calls are half-done.
@@ -54,7 +54,7 @@ fn finish(
 
 // The steps of a good file, of its schedule and then of the closing, from eight fresh queues.
 fn steps(file: &[u8], shape: Shape, slots: &mut [u16], log: &mut [u8]) -> Bench
-    requires { (reading_of (file_of file.now) ≡ Reading.Good shape) × (slots.old ≡ replicate all_slots 0) }
+    requires { (reading_of (file_of file.now) ≡ Ok shape) × (slots.old ≡ replicate all_slots 0) }
     ensures { Becomes shape.size 0 log.old (closed (record_in file.now)) result slots.new log.new }
 {
     let started = start::start(file, shape.processes);
@@ -72,11 +72,11 @@ fn run_good(
     report: &mut [u16; 4],
     table: &mut [u16; TABLE_SIZE],
 ) -> usize
-    requires { reading_of (file_of file.now) ≡ Reading.Good shape }
+    requires { reading_of (file_of file.now) ≡ Ok shape }
     ensures { Ran file.now buffer.old result buffer.new report.new table.new }
 {
     if !call_log::has_room(buffer, shape.calls) {
-        return refuse(8, report, table);
+        return refuse(u8::from(Refusal::NoRoom), report, table);
     }
     let mut slots = [0u16; ALL_SLOTS];
     let closed = steps(file, shape, &mut slots, buffer);
@@ -93,10 +93,9 @@ pub fn run_len(
 ) -> usize
     ensures { Ran file.now buffer.old result buffer.new report.new table.new }
 {
-    let reading = reader::read(file);
-    match reading {
-        Reading::Refused(number) => refuse(number, report, table),
-        Reading::Good(shape) => run_good(file, shape, buffer, report, table),
+    match reader::read(file) {
+        Ok(shape) => run_good(file, shape, buffer, report, table),
+        Err(why) => refuse(u8::from(why), report, table),
     }
 }
 

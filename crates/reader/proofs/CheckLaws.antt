@@ -6,7 +6,8 @@ use Prim.Native.Nat.{ℕ, zero, suc, ◌+◌, ◌<◌}
 use native.Mathlib.Numerals.{add-one}
 use native.Mathlib.Omega.{arith}
 use native.Mathlib.Decide.{dec_lt}
-use lib.ListN.{length, get_or, take}
+use lib.Dec.{leb}
+use Rattle.std.specs.List.{fold}
 use Rattle.base.specs.Lists.{list_of}
 use Rattle.runfile.specs.Check.{◌then◌, any, first_of}
 use Rattle.runfile.proofs.CheckLaws.{then_on}
@@ -35,16 +36,10 @@ module _ (f : ℕ → ℕ) where
       split (yes q) more = let k : first_of f n ≡ f i = more q h e in rw k (then_stop (f i) (f n) e)
       split (no q) more = let k : i ≡ n = omega arith in rw (← k, h)
 
--- whether one of a list passes
-module _ {A : Type 0} (p : A → Bool) (d : A) where
-  -- one place more
-  pub any_next : (l : List A) (i : ℕ) → i < length l → (any p (take i l) || p (get_or l i d)) ≡ any p (take (i + 1) l)
-  any_next l i h = rw add-one (go l i h)
-    where
-      go : (l : List A) (i : ℕ) → i < length l → (any p (take i l) || p (get_or l i d)) ≡ any p (take (suc i) l)
-      go [] i h = absurd (omega arith)
-      go (x ∷ l) zero h = sym (or-false (p x))
-      go (x ∷ l) (suc i) h = or_assoc (p x) _ _ ∙ ap (λ (t : Bool). p x || t) (go l i (omega arith))
+-- whether one of some numbers is the limit or more, asked of each
+pub fold_any : (limit : ℕ) (l : List ℕ) (hit : Bool) → fold (λ (t : Bool) (x : ℕ). t || leb limit x) hit l ≡ (hit || any (leb limit) l)
+fold_any limit [] hit = sym (or-false hit)
+fold_any limit (x ∷ l) hit = fold_any limit l (hit || leb limit x) ∙ or_assoc hit (leb limit x) (any (leb limit) l)
 
 -- one value more
 pub any_more : {A : Type 0} (p : A → Bool) (f : ℕ → A) (n : ℕ) → any p (list_of (n + 1) f) ≡ (any p (list_of n f) || p (f n))

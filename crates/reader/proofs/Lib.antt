@@ -1,6 +1,5 @@
--- Chains of tests, parts of some bytes, and the table of marks, as the code goes through them.
+-- Chains of tests, and the table of marks, as the code goes through them.
 pub mod CheckLaws
-pub mod PartLaws
 pub mod MarkLaws
 -- The reader's answer, from the number and the counts.
 pub mod ReadLaws

@@ -11,8 +11,9 @@ use Rattle.base.proofs.Bools.{or_r}
 use Rattle.marks.specs.Inner.Marks.{mark_bytes, marked, with_mark}
 use Rattle.marks.proofs.MarkLaws.{mark_own, mark_other, none_marked}
 use Rattle.runfile.specs.declared.Call.TheVariants.{Push}
-use Rattle.runfile.specs.declared.Coded.{Coded}
-use Rattle.runfile.specs.declared.Coded.TheVariants.{Right}
+use Rattle.std.specs.Prelude.{Result, Ok}
+use Rattle.runfile.specs.declared.Call.{Call}
+use Rattle.runfile.specs.declared.Refusal.{Refusal}
 use Rattle.runfile.specs.Check.{◌when◌, any}
 use Rattle.runfile.specs.File.{coded_at, call_in, call_at, first_calls, pushes, wrong_at}
 use Rattle.reader.proofs.CheckLaws.{any_more}
@@ -26,12 +27,12 @@ module _ (s : List ℕ) (P k : ℕ) where
   abbrev earlier : ℕ → Bool
   earlier x = any (pushes x) (first_calls s P k)
 
-  with_call : (x : ℕ) (c : Coded) → coded_at s P k ≡ c → (earlier x || pushes x (call_in c)) ≡ any (pushes x) (first_calls s P (k + 1))
-  with_call x c e = sym (any_more (pushes x) (call_at s P) k ∙ ap (λ (d : Coded). earlier x || pushes x (call_in d)) e)
+  with_call : (x : ℕ) (c : Result Call Refusal) → coded_at s P k ≡ c → (earlier x || pushes x (call_in c)) ≡ any (pushes x) (first_calls s P (k + 1))
+  with_call x c e = sym (any_more (pushes x) (call_at s P) k ∙ ap (λ (d : Result Call Refusal). earlier x || pushes x (call_in d)) e)
 
   -- call k, with a table of the calls before it
   module _ (marks : List ℕ) (h : Marks marks (first_calls s P k)) where
-    module _ (node : ℕ) (below : node < 65536) (e : coded_at s P k ≡ Right (Push node)) where
+    module _ (node : ℕ) (below : node < 65536) (e : coded_at s P k ≡ Ok (Push node)) where
       pub push_wrong : wrong_at s P k ≡ (5 when marked marks node)
       push_wrong = rw (e, h.nodes node below)
 
@@ -45,10 +46,10 @@ module _ (s : List ℕ) (P k : ℕ) where
       pub after_push : Marks (with_mark marks node) (first_calls s P (k + 1))
       after_push = record {
         size = length-set marks (node / 8) _ ∙ h.size;
-        nodes = λ x lt. by_node x lt (ℕ_discrete x node) ∙ with_call x (Right (Push node)) e;
+        nodes = λ x lt. by_node x lt (ℕ_discrete x node) ∙ with_call x (Ok (Push node)) e;
       }
 
-    pub after_other : (c : Coded) → coded_at s P k ≡ c → ((x : ℕ) → pushes x (call_in c) ≡ false) → Marks marks (first_calls s P (k + 1))
+    pub after_other : (c : Result Call Refusal) → coded_at s P k ≡ c → ((x : ℕ) → pushes x (call_in c) ≡ false) → Marks marks (first_calls s P (k + 1))
     after_other c e none = record {
       size = h.size;
       nodes = λ x lt. h.nodes x lt ∙ sym (ap (λ (t : Bool). earlier x || t) (none x) ∙ or-false (earlier x)) ∙ with_call x c e;

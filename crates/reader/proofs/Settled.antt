@@ -3,8 +3,10 @@ use mathlib.Core.Path.{◌≡◌}
 use mathlib.Core.List.{List}
 use Prim.Native.Nat.{ℕ}
 use Rattle.base.proofs.Settled.{one_value}
-use Rattle.runfile.specs.declared.Reading.{Reading}
+use Rattle.std.specs.Prelude.{Result}
+use Rattle.runfile.specs.declared.Refusal.{Refusal}
+use Rattle.runfile.specs.declared.Shape.{Shape}
 use Rattle.runfile.specs.File.{Reads}
 
-pub read : (s : List ℕ) (r q : Reading) → Reads s r → Reads s q → r ≡ q
+pub read : (s : List ℕ) (r q : Result Shape Refusal) → Reads s r → Reads s q → r ≡ q
 read s r q e d = one_value e.answer d.answer

@@ -1,4 +1,4 @@
-// The reader of run files: a file is refused by its number, or good. What its bytes say is defined in crate runfile.
+// The reader of run files: a file is refused, or good. What its bytes say is defined in crate runfile.
 #![tactic(auto)]
 
 ghost use Rattle.runfile.specs.File.{Reads};
@@ -6,7 +6,7 @@ ghost use Rattle.runfile.specs.File.{Reads};
 mod calls; // section 3's calls: the first that is wrong
 mod sections; // what refuses a section, and a file
 
-use runfile::{Reading, shape_in};
+use runfile::{Refusal, Shape, shape_in};
 
 // Section 1's count, and the most that W, C, P, a script length and the schedule's length may be.
 pub const SECTION_COUNT: u8 = 2;
@@ -22,13 +22,9 @@ pub const LONGEST_SCRIPT: u8 = 32;
 pub const LONGEST_SCHEDULE: u16 = 4096;
 
 // What a file says, for every slice of bytes.
-pub fn read(file: &[u8]) -> Reading
+pub fn read(file: &[u8]) -> Result<Shape, Refusal>
     ensures { Reads file.now result }
 {
-    let number = sections::number_of(file);
-    if number != 0 {
-        return Reading::Refused(number);
-    }
-    let shape = shape_in(file);
-    Reading::Good(shape)
+    sections::check(file)?;
+    Ok(shape_in(file))
 }

@@ -1,7 +1,7 @@
-// What refuses a section, and a file: 0 for nothing. Only section 1 looks at the first three bytes (see places.rt of runfile).
-ghost use Rattle.std.specs.Prelude.{◌≡◌, ◌+◌, ◌≤◌, leb, length};
-ghost use Rattle.base.specs.Bytes.{part};
-ghost use Rattle.runfile.specs.Check.{◌when◌, any, outside};
+// What refuses a section, and a file. Only section 1 looks at the first three bytes (see places.rt of runfile).
+ghost use Rattle.std.specs.Prelude.{◌≡◌, leb};
+ghost use Rattle.runfile.specs.Check.{◌when◌, any};
+ghost use Rattle.runfile.specs.Refusals.{refusal_number, number_in};
 ghost use Rattle.runfile.specs.File.{section1, section2, section3, section4, later_sections, number_of};
 
 use crate::calls::first_wrong;
@@ -9,146 +9,127 @@ use crate::{
     LONGEST_SCHEDULE, LONGEST_SCRIPT, MOST_PROCESSES, MOST_SIZE, MOST_WIDTH, SECTION_COUNT,
 };
 use runfile::{
-    PROCESSES_PLACE, SIZE_PLACE, WIDTH_PLACE, call_place, calls_before, shape_in, share_place,
+    PROCESSES_PLACE, Refusal, SIZE_PLACE, WIDTH_PLACE, call_place, calls_before, shape_in,
+    share_place,
 };
 
-// The number where the test holds, else 0.
-fn when(number: u8, test: bool) -> u8
-    ensures { result ≡ (number when test) }
+// The refusal where the test holds.
+fn refuse_if(test: bool, why: Refusal) -> Result<(), Refusal>
+    ensures { number_in result ≡ (refusal_number why when test) }
 {
-    if test { number } else { 0 }
+    if test { Err(why) } else { Ok(()) }
 }
 
-// Whether a number is not in a range.
-fn is_outside(low: u8, high: u8, x: u8) -> bool
-    ensures { result ≡ outside low high x }
+// Whether one of the bytes is the limit or more. The fold has no exit, so that many bytes are compared at once.
+fn reaches(bytes: &[u8], limit: u8) -> bool
+    ensures { result ≡ any (leb limit) bytes.now }
 {
-    if x < low {
-        return true;
-    }
-    high < x
-}
-
-// Whether one of so many bytes from a place on is the limit or more. The loop has no exit, so that many bytes are compared at once.
-fn reaches(file: &[u8], from: usize, count: usize, limit: u8) -> bool
-    requires { from + count ≤ length file.now }
-    ensures { result ≡ any (leb limit) (part file.now from count) }
-{
-    let mut hit = false;
-    let mut i: usize = 0;
-    while i < count {
-        hit = hit | (limit <= file[from + i]);
-        i = i + 1;
-    }
-    hit
+    bytes
+        .iter()
+        .copied()
+        .fold(false, |hit, byte| hit | (limit <= byte))
 }
 
 // Section 1: a byte 2, then W and C.
-fn section_1(file: &[u8]) -> u8
-    ensures { result ≡ section1 file.now }
+fn section_1(file: &[u8]) -> Result<(), Refusal>
+    ensures { number_in result ≡ section1 file.now }
 {
-    if file.len() < 1 {
-        return 1;
+    if file.is_empty() {
+        return Err(Refusal::CutShort);
     }
     if file[0] != SECTION_COUNT {
-        return 2;
+        return Err(Refusal::WrongSizes);
     }
     if file.len() < PROCESSES_PLACE {
-        return 1;
+        return Err(Refusal::CutShort);
     }
     if MOST_WIDTH < file[WIDTH_PLACE] {
-        return 2;
+        return Err(Refusal::WrongSizes);
     }
-    when(2, is_outside(1, MOST_SIZE, file[SIZE_PLACE]))
+    refuse_if(
+        !(1..=MOST_SIZE).contains(&file[SIZE_PLACE]),
+        Refusal::WrongSizes,
+    )
 }
 
 // Section 2: P, then the script lengths.
-fn section_2(file: &[u8]) -> u8
-    ensures { result ≡ section2 file.now }
+fn section_2(file: &[u8]) -> Result<(), Refusal>
+    ensures { number_in result ≡ section2 file.now }
 {
     let counted = share_place(0);
     if file.len() < counted {
-        return 1;
+        return Err(Refusal::CutShort);
     }
     let processes = file[PROCESSES_PLACE];
-    if is_outside(1, MOST_PROCESSES, processes) {
-        return 3;
+    if !(1..=MOST_PROCESSES).contains(&processes) {
+        return Err(Refusal::WrongScripts);
     }
     let ended = share_place(processes);
     if file.len() < ended {
-        return 1;
+        return Err(Refusal::CutShort);
     }
-    when(
-        3,
-        reaches(file, counted, ended - counted, LONGEST_SCRIPT + 1),
+    refuse_if(
+        reaches(&file[counted..ended], LONGEST_SCRIPT + 1),
+        Refusal::WrongScripts,
     )
 }
 
 // Section 3: the number of calls, then the calls from the front.
-fn section_3(file: &[u8]) -> u8
-    ensures { result ≡ section3 file.now }
+fn section_3(file: &[u8]) -> Result<(), Refusal>
+    ensures { number_in result ≡ section3 file.now }
 {
     let shape = shape_in(file);
     let counted = call_place(shape.processes, 0);
     if file.len() < counted {
-        return 1;
+        return Err(Refusal::CutShort);
     }
     if shape.calls != calls_before(file, shape.processes) {
-        return 4;
+        return Err(Refusal::WrongCall);
     }
     let ended = call_place(shape.processes, shape.calls);
     if file.len() < ended {
-        return 1;
+        return Err(Refusal::CutShort);
     }
     first_wrong(file, shape.processes, shape.calls)
 }
 
 // Section 4: the length of the schedule, then processes below P.
-fn section_4(file: &[u8]) -> u8
-    ensures { result ≡ section4 file.now }
+fn section_4(file: &[u8]) -> Result<(), Refusal>
+    ensures { number_in result ≡ section4 file.now }
 {
     let shape = shape_in(file);
     let counted = shape.schedule_place();
     if file.len() < counted {
-        return 1;
+        return Err(Refusal::CutShort);
     }
     if LONGEST_SCHEDULE < shape.steps {
-        return 6;
+        return Err(Refusal::WrongSchedule);
     }
     let ended = shape.schedule_end();
     if file.len() < ended {
-        return 1;
+        return Err(Refusal::CutShort);
     }
-    when(6, reaches(file, counted, ended - counted, shape.processes))
+    refuse_if(
+        reaches(&file[counted..ended], shape.processes),
+        Refusal::WrongSchedule,
+    )
 }
 
 // Sections 2 to 4, and the bytes after them.
-fn later_sections(file: &[u8]) -> u8
-    ensures { result ≡ later_sections file.now }
+fn later_sections(file: &[u8]) -> Result<(), Refusal>
+    ensures { number_in result ≡ later_sections file.now }
 {
-    let second = section_2(file);
-    if second != 0 {
-        return second;
-    }
-    let third = section_3(file);
-    if third != 0 {
-        return third;
-    }
-    let fourth = section_4(file);
-    if fourth != 0 {
-        return fourth;
-    }
+    section_2(file)?;
+    section_3(file)?;
+    section_4(file)?;
     let shape = shape_in(file);
-    when(7, shape.schedule_end() < file.len())
+    refuse_if(shape.schedule_end() < file.len(), Refusal::BytesAfter)
 }
 
-// The number given for a file, 0 for a good one.
-pub(crate) fn number_of(file: &[u8]) -> u8
-    ensures { result ≡ number_of file.now }
+// What refuses a file.
+pub(crate) fn check(file: &[u8]) -> Result<(), Refusal>
+    ensures { number_in result ≡ number_of file.now }
 {
-    let first = section_1(file);
-    if first != 0 {
-        return first;
-    }
+    section_1(file)?;
     later_sections(file)
 }

@@ -8,7 +8,7 @@ use lib.Seq.{take-take, get_or-take, get_or-drop}
 use Rattle.base.specs.Bytes.{part}
 use Rattle.base.proofs.Bytes.{part_get}
 use Rattle.runfile.specs.declared.Call.TheVariants.{Pop}
-use Rattle.runfile.specs.declared.Reading.TheVariants.{Good}
+use Rattle.std.specs.Prelude.{Ok}
 use Rattle.runfile.specs.Check.{sum}
 use Rattle.runfile.specs.File.{RunFile, good, script, processes_in, calls_in, step_place, length_at, calls_before, call_at, record_in, file_of, shape_of}
 use Rattle.runfile.specs.File.{reading_of}
@@ -16,7 +16,7 @@ use Rattle.runfile.proofs.CallLaws.{call_get}
 use Rattle.runfile.proofs.GoodLaws.{Passes, good_passes, shares_length, all_calls_length, schedule_length}
 
 pub record Access (s : List ℕ) (f : RunFile) : Type 0 where
-  pub shape : reading_of (file_of s) ≡ Good (shape_of f)
+  pub shape : reading_of (file_of s) ≡ Ok (shape_of f)
   pub share : (p : ℕ) → p < length f.shares → length_at s p ≡ get_or f.shares p 0
   pub before : (p : ℕ) → p ≤ length f.shares → calls_before s p ≡ sum (take p f.shares)
   pub call : (k : ℕ) → k < length f.calls → call_at s (length f.shares) k ≡ get_or f.calls k Pop

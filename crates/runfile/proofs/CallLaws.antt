@@ -11,8 +11,8 @@ use Rattle.base.specs.Lists.{list_of}
 use Rattle.base.proofs.Lists.{list_of-length, list_of_get_d}
 use Rattle.runfile.specs.declared.Call.{Call}
 use Rattle.runfile.specs.declared.Call.TheVariants.{Push, Pop}
-use Rattle.runfile.specs.declared.Coded.{Coded}
-use Rattle.runfile.specs.declared.Coded.TheVariants.{Right, Wrong}
+use Rattle.std.specs.Prelude.{Result, Ok, Err}
+use Rattle.runfile.specs.declared.Refusal.{Refusal}
 use Rattle.runfile.specs.Check.{any}
 use Rattle.runfile.specs.File.{call_of, call_in, call_at, first_calls, pushes, wrong_after}
 use Rattle.runfile.proofs.CheckLaws.{when_none}
@@ -30,7 +30,7 @@ module _ (s : List ℕ) (P : ℕ) where
   call_get n k h = list_of_get_d n (call_at s P) Pop k h
 
 -- what three bytes at a place say
-abbrev pub coded_from : ℕ → List ℕ → ℕ → Coded
+abbrev pub coded_from : ℕ → List ℕ → ℕ → Result Call Refusal
 coded_from P s at = call_of P (byte_at s at) (number_at s (at + 1))
 
 pub coded_drop : (P : ℕ) (s : List ℕ) (i at : ℕ) → coded_from P (drop i s) at ≡ coded_from P s (i + at)
@@ -40,6 +40,6 @@ coded_drop P s i at =
     rw (get_or-drop i s at 0, get_or-drop i s (at + 1) 0, get_or-drop i s (at + 1 + 1) 0, a, b)
 
 -- a push that is not refused is the first of its node
-pub first_push : (earlier : List Call) (c : Coded) (node : ℕ) → wrong_after earlier c ≡ 0 → call_in c ≡ Push node → any (pushes node) earlier ≡ false
-first_push earlier (Right call) node w e = when_none 4 _ (rw e at w)
-first_push earlier (Wrong n) node w e = absurd (let z : ◌≡◌ {A = ℕ} 0 1 = cc in omega arith)
+pub first_push : (earlier : List Call) (c : Result Call Refusal) (node : ℕ) → wrong_after earlier c ≡ 0 → call_in c ≡ Push node → any (pushes node) earlier ≡ false
+first_push earlier (Ok call) node w e = when_none 4 _ (rw e at w)
+first_push earlier (Err n) node w e = absurd (let z : ◌≡◌ {A = ℕ} 0 1 = cc in omega arith)

@@ -10,7 +10,8 @@ use Rattle.base.specs.Lists.{list_of}
 use Rattle.base.proofs.Bytes.{high, low, number_at-drop}
 use Rattle.base.proofs.Cases.{if_eq, if_lt}
 use Rattle.runfile.specs.declared.Call.{Call}
-use Rattle.runfile.specs.declared.Coded.{Coded}
+use Rattle.std.specs.Prelude.{Result}
+use Rattle.runfile.specs.declared.Refusal.{Refusal}
 use Rattle.runfile.specs.File.{first_calls, RunFile, good, section_count, width_in, size_in, processes_in, calls_in, steps_in, call_place, step_place, call_of}
 use Rattle.runfile.specs.File.{first_calls, coded_at, call_in, wrong_after, record_in, file_of}
 use Rattle.runfile.specs.Encode.{call_bytes, calls_bytes, encode}
@@ -42,7 +43,7 @@ call_bytes_lem P code x earlier =
     (λ _. if_eq Q code 3 (λ c. if_lt Q x P (λ _ h. rw c) (λ _ h. absurd (omega arith)))
     (λ _ h. absurd (omega arith))))
   where
-    Q : Coded → Type 0
+    Q : Result Call Refusal → Type 0
     Q c = wrong_after earlier c ≡ 0 → call_bytes (call_in c) ≡ code ∷ pair x
 
 -- a part, and what follows it

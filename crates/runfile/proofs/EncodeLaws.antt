@@ -13,7 +13,7 @@ use Rattle.base.proofs.Bytes.{rejoined, number_at-drop}
 use Rattle.base.proofs.Lists.{list_of_all}
 use Rattle.runfile.specs.declared.Call.{Call}
 use Rattle.runfile.specs.declared.Call.TheVariants.{Push, Pop, Take}
-use Rattle.runfile.specs.declared.Coded.TheVariants.{Right}
+use Rattle.std.specs.Prelude.{Ok}
 use Rattle.runfile.specs.Check.{sum}
 use Rattle.runfile.specs.File.{RunFile, good, longest_script, calls_in, steps_in, call_place, step_place, coded_at, call_in, call_at, first_calls}
 use Rattle.runfile.specs.File.{pushes, wrong_after, wrong_at, record_in, file_of}
@@ -33,7 +33,7 @@ calls_bytes-length (c ∷ cs) = rw (length-append (call_bytes c) (calls_bytes cs
     three (Take q) = refl
 
 -- a call in range is read back, and its three bytes stand before what follows
-call_back : (P : ℕ) (c : Call) (l : List ℕ) → CallInRange P c → coded_from P (call_bytes c ++ l) 0 ≡ Right c
+call_back : (P : ℕ) (c : Call) (l : List ℕ) → CallInRange P c → coded_from P (call_bytes c ++ l) 0 ≡ Ok c
 call_back P (Push x) l h = rw (rejoined x, ne_eqb x 0 (λ z. omega arith))
 call_back P Pop l h = refl
 call_back P (Take q) l h = rw (rejoined q, lt-ltb q P h)
@@ -44,7 +44,7 @@ after_call Pop l = refl
 after_call (Take q) l = refl
 
 calls_back : (P : ℕ) (cs : List Call) (l : List ℕ) → ((k : ℕ) → k < length cs → CallInRange P (get_or cs k Pop))
-    → (k : ℕ) → k < length cs → coded_from P (calls_bytes cs ++ l) (3 * k) ≡ Right (get_or cs k Pop)
+    → (k : ℕ) → k < length cs → coded_from P (calls_bytes cs ++ l) (3 * k) ≡ Ok (get_or cs k Pop)
 calls_back P [] l h k lt = absurd (omega arith)
 calls_back P (c ∷ cs) l h zero lt = rw (append_assoc (call_bytes c) (calls_bytes cs) l) (call_back P c (calls_bytes cs ++ l) (h 0 lt))
 calls_back P (c ∷ cs) l h (suc k) lt =
@@ -119,7 +119,7 @@ module _ (f : RunFile) where
   schedule_back = rw (at_schedule, steps_number) (take_all m f.schedule (omega arith))
 
   module _ (r : InRanges f) where
-    coded_back : (k : ℕ) → k < n → coded_at s P k ≡ Right (get_or f.calls k Pop)
+    coded_back : (k : ℕ) → k < n → coded_at s P k ≡ Ok (get_or f.calls k Pop)
     coded_back k lt =
         sym (coded_drop P s (6 + P) (3 * k)) ∙ ap (λ (l : List ℕ). coded_from P l (3 * k)) at_calls
         ∙ calls_back P f.calls fourth r.calls k lt
@@ -147,7 +147,7 @@ module _ (f : RunFile) where
         apart node e j Pop below d = refl
         apart node e j (Take q) below d = refl
 
-        by_call : (c : Call) → get_or f.calls k Pop ≡ c → wrong_after (first_calls s P k) (Right c) ≡ 0
+        by_call : (c : Call) → get_or f.calls k Pop ≡ c → wrong_after (first_calls s P k) (Ok c) ≡ 0
         by_call (Push node) e =
             rw (any_all (pushes node) Pop (first_calls s P k) (λ j below.
             let l : j < k = omega (arith, calls_length s P k) in

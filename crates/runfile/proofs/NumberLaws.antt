@@ -10,8 +10,8 @@ use Rattle.base.specs.Bytes.{byte_at, number_at}
 use Rattle.base.proofs.Cases.{either_way, if_eq, if_lt}
 use Rattle.runfile.specs.declared.Call.{Call}
 use Rattle.runfile.specs.declared.Call.TheVariants.{Push, Pop, Take}
-use Rattle.runfile.specs.declared.Coded.{Coded}
-use Rattle.runfile.specs.declared.Coded.TheVariants.{Right}
+use Rattle.std.specs.Prelude.{Result, Ok}
+use Rattle.runfile.specs.declared.Refusal.{Refusal}
 use Rattle.runfile.specs.Check.{◌when◌, ◌then◌, ◌ends_before◌, any, first_of, outside}
 use Rattle.runfile.specs.File.{section_count, most_width, most_size, most_processes, longest_script, longest_schedule, width_in, size_in, share_place}
 use Rattle.runfile.specs.File.{calls_before, steps_in, step_place, RunFile, Answer, refused, good, answer, call_place, call_of, first_calls, pushes}
@@ -37,10 +37,10 @@ call_few earlier P code x =
     (λ _. if_eq Q code 2 (λ _. if_eq Q x 0 (λ _. right Pop) (λ _. omega arith))
     (λ _. if_eq Q code 3 (λ _. if_lt Q x P (λ _. right (Take x)) (λ _. omega arith)) (λ _. omega arith)))
   where
-    Q : Coded → Type 0
+    Q : Result Call Refusal → Type 0
     Q c = Few (wrong_after earlier c)
 
-    right : (call : Call) → Few (wrong_after earlier (Right call))
+    right : (call : Call) → Few (wrong_after earlier (Ok call))
     right (Push node) = when_few 5 (any (pushes node) earlier) (omega arith)
     right Pop = omega arith
     right (Take queue) = omega arith
@@ -52,7 +52,7 @@ section_few n missing wrong short inside h k =
     then_few (1 when missing) _ (when_few 1 missing (omega arith))
     (then_few (n when wrong) _ (when_few n wrong h) (then_few (1 when short) inside (when_few 1 short (omega arith)) k))
 
-number_few : (s : List ℕ) → Few (number_of s)
+pub number_few : (s : List ℕ) → Few (number_of s)
 number_few s =
     then_few (section1 s) _
     (section_few 2 (s ends_before 1) (not (eqb (byte_at s 0) section_count)) (s ends_before 3) _ (omega arith)

@@ -10,7 +10,8 @@ use Rattle.base.specs.Bytes.{Bytes, number_at}
 use Rattle.base.proofs.Cases.{if_eq, if_lt, never}
 use Rattle.runfile.specs.declared.Call.{Call}
 use Rattle.runfile.specs.declared.Call.TheVariants.{Push, Pop}
-use Rattle.runfile.specs.declared.Coded.{Coded}
+use Rattle.std.specs.Prelude.{Result}
+use Rattle.runfile.specs.declared.Refusal.{Refusal}
 use Rattle.runfile.specs.Check.{sum}
 use Rattle.runfile.specs.File.{RunFile, good, longest_script, processes_in, calls_in, call_place, call_of, coded_at, call_in, first_calls, pushes}
 use Rattle.runfile.specs.File.{wrong_after, wrong_at, record_in, file_of}
@@ -28,7 +29,7 @@ call_in_range P code x earlier h =
     (λ _. if_eq Q code 3 (λ _. if_lt Q x P (λ l e. l) (λ _ e. absurd (omega arith)))
     (λ _ e. absurd (omega arith))))
   where
-    Q : Coded → Type 0
+    Q : Result Call Refusal → Type 0
     Q c = wrong_after earlier c ≡ 0 → CallInRange P (call_in c)
 
 number_most : (s : List ℕ) → Bytes s → (i : ℕ) → number_at s i ≤ 65535

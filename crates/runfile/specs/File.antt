@@ -1,9 +1,10 @@
 -- The run file: what it says, where its bytes stand, and the number that refuses it.
-use Rattle.std.specs.Prelude.{ℕ, zero, suc, ◌+◌, ◌*◌, Bool, false, cond, not, ltb, leb, eqb, List, length, get_or, take, drop, ◌≡◌}
+use Rattle.std.specs.Prelude.{ℕ, zero, suc, ◌+◌, ◌*◌, Bool, false, cond, not, ltb, leb, eqb, List, length, get_or, take, drop, ◌≡◌, Result, Ok, Err}
 use Rattle.base.specs.{Bytes.byte_at, Bytes.part, Bytes.number_at, Lists.list_of}
-use Rattle.runfile.specs.{declared.Call.Call, declared.Coded.Coded, declared.Reading.TheVariants.Refused, declared.Reading.TheVariants.Good}
-use Rattle.runfile.specs.{declared.Shape.Shape, declared.Reading.Reading, declared.Coded.TheVariants.Right, declared.Coded.TheVariants.Wrong}
+use Rattle.runfile.specs.{declared.Call.Call, declared.Shape.Shape, declared.Refusal.Refusal}
 use Rattle.runfile.specs.declared.Call.TheVariants.{Push, Pop, Take}
+use Rattle.runfile.specs.declared.Refusal.TheVariants.{WrongCall, WrongNode}
+use Rattle.runfile.specs.Refusals.{refusal_number, refusal_of, number_in}
 use Rattle.runfile.specs.Check.{◌when◌, ◌then◌, ◌ends_before◌, any, first_of, sum, outside}
 
 -- What a run file says: W, C, each process's share of the calls (P is the number of shares), the calls, and the schedule.
@@ -72,21 +73,21 @@ call_place processes k = 6 + processes + 3 * k
 abbrev pub calls_end : List ℕ → ℕ
 calls_end s = call_place (processes_in s) (calls_in s)
 
--- 1 and a node; 2 and 0; 3 and a queue number below P; else the number that refuses it
-abbrev pub call_of : ℕ → ℕ → ℕ → Coded
+-- 1 and a node; 2 and 0; 3 and a queue number below P; else what refuses it
+abbrev pub call_of : ℕ → ℕ → ℕ → Result Call Refusal
 call_of processes code argument =
-    cond (eqb code 1) (cond (eqb argument 0) (Wrong 5) (Right (Push argument)))
-    (cond (eqb code 2) (cond (eqb argument 0) (Right Pop) (Wrong 4))
-    (cond (eqb code 3) (cond (ltb argument processes) (Right (Take argument)) (Wrong 4))
-    (Wrong 4)))
+    cond (eqb code 1) (cond (eqb argument 0) (Err WrongNode) (Ok (Push argument)))
+    (cond (eqb code 2) (cond (eqb argument 0) (Ok Pop) (Err WrongCall))
+    (cond (eqb code 3) (cond (ltb argument processes) (Ok (Take argument)) (Err WrongCall))
+    (Err WrongCall)))
 
-abbrev pub coded_at : List ℕ → ℕ → ℕ → Coded
+abbrev pub coded_at : List ℕ → ℕ → ℕ → Result Call Refusal
 coded_at s processes k = call_of processes (byte_at s (call_place processes k)) (number_at s (call_place processes k + 1))
 
 -- the call that is said; no good file has three bytes that say none
-abbrev pub call_in : Coded → Call
-call_in (Right call) = call
-call_in (Wrong number) = Pop
+abbrev pub call_in : Result Call Refusal → Call
+call_in (Ok call) = call
+call_in (Err why) = Pop
 
 abbrev pub call_at : List ℕ → ℕ → ℕ → Call
 call_at s processes k = call_in (coded_at s processes k)
@@ -123,11 +124,11 @@ pushes node (Push x) = eqb x node
 pushes node Pop = false
 pushes node (Take queue) = false
 
-abbrev pub wrong_after : List Call → Coded → ℕ
-wrong_after earlier (Right (Push node)) = 5 when any (pushes node) earlier
-wrong_after earlier (Right Pop) = 0
-wrong_after earlier (Right (Take queue)) = 0
-wrong_after earlier (Wrong number) = number
+abbrev pub wrong_after : List Call → Result Call Refusal → ℕ
+wrong_after earlier (Ok (Push node)) = 5 when any (pushes node) earlier
+wrong_after earlier (Ok Pop) = 0
+wrong_after earlier (Ok (Take queue)) = 0
+wrong_after earlier (Err why) = refusal_number why
 
 abbrev pub wrong_at : List ℕ → ℕ → ℕ → ℕ
 wrong_at s processes k = wrong_after (first_calls s processes k) (coded_at s processes k)
@@ -183,20 +184,16 @@ answer (suc n) f = refused (suc n)
 unfoldable pub file_of : List ℕ → Answer
 file_of s = answer (number_of s) (record_in s)
 
--- The reader's answer: this paper's number for each of its cases, and of a good file W, C, P and the numbers of calls and steps.
-abbrev pub number_in : Reading → ℕ
-number_in (Refused n) = n
-number_in (Good shape) = 0
-
+-- The reader's answer: what refuses a file, and of a good one W, C, P and the numbers of calls and steps.
 abbrev pub shape_of : RunFile → Shape
 shape_of f =
     record { width = f.width; size = f.size; processes = length f.shares; calls = length f.calls; steps = length f.schedule }
 
-abbrev pub reading_of : Answer → Reading
-reading_of (refused n) = Refused n
-reading_of (good f) = Good (shape_of f)
+abbrev pub reading_of : Answer → Result Shape Refusal
+reading_of (refused n) = Err (refusal_of n)
+reading_of (good f) = Ok (shape_of f)
 
 -- what `read` promises of its answer
-pub record Reads (s : List ℕ) (r : Reading) : Type 0 where
+pub record Reads (s : List ℕ) (r : Result Shape Refusal) : Type 0 where
   pub number : number_in r ≡ number_of s
   pub answer : r ≡ reading_of (file_of s)

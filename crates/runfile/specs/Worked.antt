@@ -2,7 +2,8 @@
 use Rattle.std.specs.Prelude.{ℕ, suc, List, [], ◌∷◌, ◌++◌, map, take, drop, replicate, ◌≡◌, refl}
 use Rattle.base.specs.Lists.{list_of}
 use Rattle.runfile.specs.{declared.Call.TheVariants.Push, declared.Call.TheVariants.Pop, declared.Call.TheVariants.Take, Encode.calls_bytes}
-use Rattle.runfile.specs.File.{good, file_of, reading_of, number_in, later_sections, length_at, calls_before, call_at, step_place, wrong_at}
+use Rattle.runfile.specs.Refusals.{number_in}
+use Rattle.runfile.specs.File.{good, file_of, reading_of, later_sections, length_at, calls_before, call_at, step_place, wrong_at}
 
 -- one process, no call, no schedule
 abbrev boxed : ℕ → ℕ → List ℕ

@@ -48,11 +48,8 @@ pub fn calls_before(file: &[u8], p: u8) -> u16
     ensures { result ≡ calls_before file.now p }
 {
     let mut calls: u16 = 0;
-    let mut i: u8 = 0;
-    while i < p {
-        let share = u16::from(length_at(file, i));
-        calls = calls + share;
-        i = i + 1;
+    for i in 0..p {
+        calls += u16::from(length_at(file, i));
     }
     calls
 }

@@ -16,7 +16,8 @@ use Rattle.steps.specs.declared.Next.TheVariants.{Going, Done, Node, Nil, Lost, 
 use Rattle.steps.specs.Step.{Stepped}
 use Rattle.base.specs.Bytes.{byte_at, number_at}
 use Rattle.base.proofs.Lists.{list_of-length, list_of_get_d}
-use Rattle.runfile.specs.declared.Coded.{Coded}
+use Rattle.std.specs.Prelude.{Result}
+use Rattle.runfile.specs.declared.Refusal.{Refusal}
 use Rattle.runfile.specs.File.{call_place, call_of, call_in, call_at, first_calls}
 use Rattle.runfile.specs.declared.Call.{Call}
 use Rattle.runfile.specs.declared.Call.TheVariants.{Pop}
@@ -111,7 +112,7 @@ call_in_lem P code argument =
     (λ e. either_way on (eqb code 2) (λ d. either_way on (eqb argument 0) (λ i. tt) (λ i. tt))
     (λ d. either_way on (eqb code 3) (λ i. either_way on (ltb argument P) (λ j. ltb-true argument P j) (λ j. tt)) (λ i. tt)))
   where
-    on : Coded → Type 0
+    on : Result Call Refusal → Type 0
     on c = CallIn P (call_in c)
 
 pub calls_in_lem : (file : List ℕ) (P n : ℕ) → AllIn P (first_calls file P n)

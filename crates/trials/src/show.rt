@@ -1,5 +1,5 @@
 // What a file or a log gives, on the line that its name began.
-use runfile::{Reading, Shape};
+use runfile::Shape;
 
 pub(crate) fn text(rt: &impl Print, bytes: &[u8]) {
     let _ = rt.write_all(bytes);
@@ -67,9 +67,8 @@ fn good(rt: &impl Print, shape: Shape) {
 
 // Reads a file.
 pub(crate) fn read(rt: &impl Print, file: &[u8]) {
-    let reading = reader::read(file);
-    match reading {
-        Reading::Refused(n) => refused(rt, n as u16),
-        Reading::Good(shape) => good(rt, shape),
+    match reader::read(file) {
+        Ok(shape) => good(rt, shape),
+        Err(why) => refused(rt, u16::from(u8::from(why))),
     }
 }

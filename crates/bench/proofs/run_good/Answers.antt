@@ -8,7 +8,7 @@ returns-then-not-has_room c =
     refusal_gives _ 8 _ _ _ _
     (gives_8 c.args.file.now (λ i. (c.type_inv.file i).fits) c.args.shape c.requires c.args.buffer.now c.has_room.result
     c.has_room.ensures c.if-not-has_room.true)
-    c.refuse.ensures
+    (rw c.from.ensures at c.refuse.ensures)
 
 pub finish-requires : goal.finish-requires
 finish-requires c =

@@ -1,13 +1,12 @@
 -- No call before k is wrong, so the first that is gives its own number (`first_found`); the table stands for the calls before k.
 use mathlib.Core.Path.{◌≡◌}
-use Prim.Native.Nat.{◌-◌, ◌≤◌}
 use Rattle.runfile.specs.Check.{first_of}
 use Rattle.runfile.specs.File.{first_calls, wrong_at}
 use Rattle.reader.specs.Inner.Marks.{Marks}
 use Rattle.reader.proofs.calls.first_wrong.Given as goal
 
 abbrev pub invariant-loop-k : goal.invariant-loop-k
-invariant-loop-k l = (l.k ≤ l.calls) × (first_of (wrong_at l.file l.processes) l.k ≡ 0) × Marks l.marks (first_calls l.file l.processes l.k)
-
-abbrev pub decreases-loop-k : goal.decreases-loop-k
-decreases-loop-k l = l.calls - l.k
+invariant-loop-k l = record {
+  right : first_of (wrong_at l.file l.processes) l.k ≡ 0;
+  marks : Marks l.marks (first_calls l.file l.processes l.k);
+}
