@@ -26,8 +26,8 @@ fn entry(p: u8, n: u16, of: Process, what: What, node: u16, moment: u16) -> Entr
     Entry {
         process: p,
         queue: queue_of(p, of),
-        kind: call_log::kind_of(what),
-        result: call_log::result_of(what),
+        kind: what.kind(),
+        result: what.result(),
         node,
         start: of.start,
         end: n,

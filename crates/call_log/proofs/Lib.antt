@@ -1,7 +1,5 @@
 -- Kind and result against what a call did.
 pub mod NumbersLaws
--- A `match` on what a call did, whose arms take several variants.
-pub mod WhatLaws
 -- Where an entry stands in the bytes.
 pub mod DecodeLaws
 -- The round trip of a log and its bytes.

@@ -7,10 +7,10 @@ use lib.Dec.{leb}
 use lib.ListN.{length}
 use Rattle.call_log.specs.declared.Entry.{Entry}
 use Rattle.call_log.specs.declared.What.{What}
-use Rattle.call_log.specs.Numbers.{kind_of, result_of, what_of}
+use Rattle.call_log.specs.Numbers.{kind_of, result_of, what_of, what}
 use Rattle.base.specs.Bytes.{put_at}
 use Rattle.base.proofs.Settled.{one_value}
-use Rattle.call_log.specs.Decode.{log_length, entry_at}
+use Rattle.call_log.specs.Decode.{log_length, first_entry, entry_at}
 use Rattle.call_log.specs.Encode.{head_bytes, entry_bytes}
 
 pub kind_of_lem : (w : What) (r s : ℕ) → r ≡ kind_of w → s ≡ kind_of w → r ≡ s
@@ -21,6 +21,16 @@ result_of_lem w r s = one_value
 
 pub what_of_lem : (kind result : ℕ) (r s : What) → r ≡ what_of kind result → s ≡ what_of kind result → r ≡ s
 what_of_lem kind result r s = one_value
+
+pub what_lem : (e : Entry) (r s : What) → r ≡ what e → s ≡ what e → r ≡ s
+what_lem e r s = one_value
+
+-- the two conversions of an entry and its bytes
+pub from_bytes : (bytes : List ℕ) (r s : Entry) → r ≡ first_entry bytes → s ≡ first_entry bytes → r ≡ s
+from_bytes bytes r s = one_value
+
+pub from_entry : (e : Entry) (r s : List ℕ) → r ≡ entry_bytes e → s ≡ entry_bytes e → r ≡ s
+from_entry e r s = one_value
 
 pub entry_at_lem : (bytes : List ℕ) (i : ℕ) (r s : Entry) → r ≡ entry_at bytes i → s ≡ entry_at bytes i → r ≡ s
 entry_at_lem bytes i r s = one_value

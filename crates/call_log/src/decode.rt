@@ -1,52 +1,38 @@
 // What stands in a log's bytes. Bytes past the end read as 0.
 ghost use Rattle.std.specs.Prelude.{◌≡◌};
-ghost use Rattle.call_log.specs.Decode.{first_entry, entry_at, no_entry};
+ghost use Rattle.call_log.specs.Decode.{first_entry, entry_at};
 
 use crate::{ENTRY_LENGTH, Entry, HEAD_LENGTH};
-use base::{byte_at, number_at};
+use base::byte_at;
 
-// The entry whose twelve bytes stand in front.
-fn first_entry(bytes: &[u8]) -> Entry
-    ensures { result ≡ first_entry bytes.now }
-{
-    Entry {
-        process: byte_at(bytes, 0),
-        queue: byte_at(bytes, 1),
-        kind: byte_at(bytes, 2),
-        result: byte_at(bytes, 3),
-        node: number_at(bytes, 4),
-        start: number_at(bytes, 6),
-        end: number_at(bytes, 8),
-        moment: number_at(bytes, 10),
+impl From<&[u8; ENTRY_LENGTH]> for Entry {
+    ghost from_gives = { λ bytes entry. entry ≡ first_entry bytes.now };
+
+    fn from(bytes: &[u8; ENTRY_LENGTH]) -> Entry {
+        Entry {
+            process: bytes[0],
+            queue: bytes[1],
+            kind: bytes[2],
+            result: bytes[3],
+            node: u16::from_be_bytes([bytes[4], bytes[5]]),
+            start: u16::from_be_bytes([bytes[6], bytes[7]]),
+            end: u16::from_be_bytes([bytes[8], bytes[9]]),
+            moment: u16::from_be_bytes([bytes[10], bytes[11]]),
+        }
     }
 }
 
-// What stands past the end: all 0.
-fn no_entry() -> Entry
-    ensures { result ≡ no_entry }
-{
-    Entry {
-        process: 0,
-        queue: 0,
-        kind: 0,
-        result: 0,
-        node: 0,
-        start: 0,
-        end: 0,
-        moment: 0,
-    }
-}
-
-// Entry i of a log. The first test keeps the sum after it from wrapping.
+// Entry i of a log. The test keeps the sum after it from wrapping.
 pub fn entry_at(log: &[u8], i: usize) -> Entry
     ensures { result ≡ entry_at log.now i }
 {
     if log.len() / ENTRY_LENGTH < i {
-        return no_entry();
+        return Entry::default();
     }
     let at = HEAD_LENGTH + ENTRY_LENGTH * i;
-    if log.len() < at {
-        return no_entry();
+    let mut bytes = [0; ENTRY_LENGTH];
+    for (k, byte) in bytes.iter_mut().enumerate() {
+        *byte = byte_at(log, at + k);
     }
-    first_entry(&log[at..])
+    Entry::from(&bytes)
 }

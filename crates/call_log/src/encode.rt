@@ -11,7 +11,7 @@ use base::{high, low, put};
 pub fn length_of(entries: u16) -> usize
     ensures { result ≡ log_length entries }
 {
-    HEAD_LENGTH + ENTRY_LENGTH * (entries as usize)
+    HEAD_LENGTH + ENTRY_LENGTH * usize::from(entries)
 }
 
 // Whether a buffer has room for a log of so many entries.
@@ -25,27 +25,34 @@ pub fn has_room(buffer: &[u8], entries: u16) -> bool
 pub fn put_head(buffer: &mut [u8], processes: u8, slots: u8, entries: u16)
     ensures { buffer.new ≡ put_at 0 (head_bytes processes slots entries) buffer.old }
 {
-    let bytes = [SECTION_COUNT, processes, slots, high(entries), low(entries)];
-    put(buffer, 0, &bytes)
+    let [high, low] = entries.to_be_bytes();
+    put(buffer, 0, &[SECTION_COUNT, processes, slots, high, low])
+}
+
+impl From<Entry> for [u8; ENTRY_LENGTH] {
+    ghost from_gives = { λ entry bytes. bytes ≡ entry_bytes entry };
+
+    fn from(entry: Entry) -> [u8; ENTRY_LENGTH] {
+        [
+            entry.process,
+            entry.queue,
+            entry.kind,
+            entry.result,
+            high(entry.node),
+            low(entry.node),
+            high(entry.start),
+            low(entry.start),
+            high(entry.end),
+            low(entry.end),
+            high(entry.moment),
+            low(entry.moment),
+        ]
+    }
 }
 
 // Puts an entry's twelve bytes at a place.
 pub fn put_entry(buffer: &mut [u8], at: usize, entry: Entry)
     ensures { buffer.new ≡ put_at at (entry_bytes entry) buffer.old }
 {
-    let bytes = [
-        entry.process,
-        entry.queue,
-        entry.kind,
-        entry.result,
-        high(entry.node),
-        low(entry.node),
-        high(entry.start),
-        low(entry.start),
-        high(entry.end),
-        low(entry.end),
-        high(entry.moment),
-        low(entry.moment),
-    ];
-    put(buffer, at, &bytes)
+    put(buffer, at, &<[u8; ENTRY_LENGTH]>::from(entry))
 }

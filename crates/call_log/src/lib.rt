@@ -3,14 +3,13 @@
 
 mod decode; // what stands in a log's bytes
 mod encode; // a log's length; an entry and the head, written
-mod numbers; // what a call did, by kind and result
+mod numbers; // the methods of `What`, and what an entry's call did
 
 pub use crate::decode::entry_at;
 pub use crate::encode::{has_room, length_of, put_entry, put_head};
-pub use crate::numbers::{kind_of, result_of, what_of};
 
-// A finished call.
-#[derive(Clone, Copy)]
+// A finished call, as its bytes have it: a log of any bytes is judged, so that kind and result may be any numbers.
+#[derive(Clone, Copy, Default)]
 pub struct Entry {
     pub process: u8,
     pub queue: u8,
@@ -61,7 +60,7 @@ pub const SECTION_COUNT: u8 = 2;
 // The bytes before the entries, and the bytes of an entry.
 pub const HEAD_LENGTH: usize = 5;
 
-const ENTRY_LENGTH: usize = 12;
+pub const ENTRY_LENGTH: usize = 12;
 
 // The most entries of a log, and its length then.
 pub const MOST_ENTRIES: usize = 256;

@@ -1,5 +1,4 @@
--- What a call did, by its kind and result alone; and rule 1 by tables of these.
-pub mod KindLaws
+-- Rule 1 of kind, result and node together.
 pub mod FieldLaws
 -- Each public function's promise settles its result.
 pub mod Settled

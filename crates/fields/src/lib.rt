@@ -6,10 +6,10 @@ ghost use Rattle.call_log.specs.Numbers.{what as what_is, same, is_top_nil, no_m
 ghost use Rattle.rules.specs.Contents.{bears as bears_is};
 ghost use Rattle.rules.specs.Rules.{keeps1, in_call};
 ghost use Rattle.fields.specs.Inner.Ends.{ends_after};
-ghost use Rattle.fields.specs.Inner.Fields.{stands_in};
+ghost use Rattle.fields.specs.Inner.Fields.{possible};
 ghost use Rattle.fields.specs.Inner.Took.{took_after};
 
-use call_log::{Entry, What};
+use call_log::{BOTTOM_POP, DONE, Entry, FULL, LOST, NIL, NO_MOMENT, PUSH, TOP_POP, What};
 
 // Two numbers lie in one: the upper one times this, and the lower one.
 pub const UPPER: usize = 65536;
@@ -17,53 +17,39 @@ pub const UPPER: usize = 65536;
 // The last step at which a call may end, by rule 1.
 const LAST_END: u16 = 32766;
 
-// What a call and its result may be, each as bit 4 × kind + result: of the entries with a node, and of those with none.
-const WITH_NODE: u16 = (1 << (4 * call_log::PUSH + call_log::DONE))
-    + (1 << (4 * call_log::PUSH + call_log::FULL))
-    + (1 << (4 * call_log::BOTTOM_POP + call_log::DONE))
-    + (1 << (4 * call_log::TOP_POP + call_log::DONE));
-
-const WITHOUT_NODE: u16 = (1 << (4 * call_log::BOTTOM_POP + call_log::NIL))
-    + (1 << (4 * call_log::TOP_POP + call_log::NIL))
-    + (1 << (4 * call_log::TOP_POP + call_log::LOST));
-
-// Whether kind and result stand in a table.
-fn stands(table: u16, kind: u8, res: u8) -> bool
-    ensures { result ≡ stands_in table kind res }
+// Whether a call can have had such a result, with a node or with none.
+fn possible(kind: u8, res: u8, with_node: bool) -> bool
+    ensures { result ≡ possible kind res with_node }
 {
-    let bit = 4 * (kind % 4) + res % 4;
-    (kind <= call_log::TOP_POP) & (res <= call_log::MOST_RESULT) & ((table >> bit) % 2 == 1)
+    match (kind, res) {
+        (PUSH, DONE | FULL) | (BOTTOM_POP | TOP_POP, DONE) => with_node,
+        (BOTTOM_POP | TOP_POP, NIL) | (TOP_POP, LOST) => !with_node,
+        _ => false,
+    }
 }
 
 // Rule 1.
 pub fn keeps_fields(p: u8, e: Entry) -> bool
     ensures { result ≡ keeps1 p e }
 {
-    let table = if e.node == 0 { WITHOUT_NODE } else { WITH_NODE };
-    let told = stands(table, e.kind, e.result);
-    let process = e.process;
-    let queue = e.queue;
-    let start = e.start;
-    let end = e.end;
-    (process < p)
-        & (queue < p)
-        & told
-        & ((e.kind == call_log::TOP_POP) | (process == queue))
-        & (start <= end)
-        & (end <= LAST_END)
+    (e.process < p)
+        & (e.queue < p)
+        & possible(e.kind, e.result, e.node != 0)
+        & ((e.kind == TOP_POP) | (e.process == e.queue))
+        & (e.start <= e.end)
+        & (e.end <= LAST_END)
 }
 
 // Rule 3 of one entry: a moment in the call's time where one is wanted, else none.
 pub fn moment_right(wanted: bool, e: Entry) -> bool
     ensures { result ≡ cond wanted (in_call e e.moment) (eqb e.moment no_moment) }
 {
-    let at = e.moment as usize;
-    let from = 2 * (e.start as usize);
-    let to = 2 * (e.end as usize) + 1;
     if wanted {
-        (from <= at) & (at <= to)
+        let from = 2 * u32::from(e.start);
+        let to = 2 * u32::from(e.end) + 1;
+        (from..=to).contains(&u32::from(e.moment))
     } else {
-        e.moment == call_log::NO_MOMENT
+        e.moment == NO_MOMENT
     }
 }
 
@@ -71,38 +57,34 @@ pub fn moment_right(wanted: bool, e: Entry) -> bool
 pub fn bears(e: Entry) -> bool
     ensures { result ≡ bears_is e }
 {
-    (e.kind == call_log::BOTTOM_POP) | (e.result == call_log::DONE)
+    !matches!(e.what(), What::Full | What::TopNil | What::TopLost)
 }
 
 pub fn pushed(e: Entry) -> bool
     ensures { result ≡ same What.Pushed (what_is e) }
 {
-    (e.kind == call_log::PUSH) & (e.result == call_log::DONE)
+    matches!(e.what(), What::Pushed)
 }
 
 pub fn full(e: Entry) -> bool
     ensures { result ≡ same What.Full (what_is e) }
 {
-    (e.kind == call_log::PUSH) & !(e.result == call_log::DONE)
+    matches!(e.what(), What::Full)
 }
 
 pub fn top_nil(e: Entry) -> bool
     ensures { result ≡ is_top_nil (what_is e) }
 {
-    !(e.kind == call_log::PUSH) & !(e.kind == call_log::BOTTOM_POP) & !(e.result == call_log::DONE)
+    matches!(e.what(), What::TopNil | What::TopLost)
 }
 
 // The moment after the last take of the call's process from its queue, where it was this before the call.
 pub fn took_after(e: Entry, took: u32) -> u32
     ensures { result ≡ took_after e took }
 {
-    if !(e.kind == call_log::PUSH)
-        & !(e.kind == call_log::BOTTOM_POP)
-        & (e.result == call_log::DONE)
-    {
-        e.moment as u32 + 1
-    } else {
-        took
+    match e.what() {
+        What::TopNode => u32::from(e.moment) + 1,
+        _ => took,
     }
 }
 
@@ -111,22 +93,12 @@ pub fn moved(ends: u32, e: Entry) -> usize
     ensures { result ≡ ends_after (what_is e) ends }
 {
     let at = ends as usize;
-    let did = call_log::what_of(e.kind, e.result);
-    match did {
+    let held = at % UPPER < at / UPPER;
+    match e.what() {
         What::Pushed => at + UPPER,
-        What::BottomNode => {
-            if at / UPPER <= at % UPPER {
-                return at;
-            }
-            at - UPPER
-        }
-        What::TopNode => {
-            if at / UPPER <= at % UPPER {
-                return at;
-            }
-            at + 1
-        }
-        What::Full | What::BottomNil | What::TopNil | What::TopLost => at,
+        What::BottomNode if held => at - UPPER,
+        What::TopNode if held => at + 1,
+        _ => at,
     }
 }
 

@@ -18,7 +18,7 @@ fn shelf_after(e: Entry, shelf: u32) -> u32
     requires { shelf < 2 ^ 31 }
     ensures { result ≡ shelf_after e shelf }
 {
-    let did = call_log::what_of(e.kind, e.result);
+    let did = e.what();
     match did {
         What::Pushed => {
             if shelf < SHELVED {

@@ -16,7 +16,7 @@ fn counts_after(e: Entry, counts: usize) -> usize
     requires { counts < 2 ^ 32 }
     ensures { result ≡ counts_after (what_is e) counts }
 {
-    let did = call_log::what_of(e.kind, e.result);
+    let did = e.what();
     match did {
         What::Pushed => counts + UPPER,
         What::BottomNode => counts + 1,

@@ -36,7 +36,7 @@ fn lawful(nodes: &[u16], row: usize, ends: usize, from: usize, count: usize, e: 
 {
     let lo = row + ends % UPPER;
     let hi = row + ends / UPPER;
-    let did = call_log::what_of(e.kind, e.result);
+    let did = e.what();
     match did {
         What::Pushed => !pushed_in(nodes, from, count, e.node),
         What::BottomNode => {

@@ -1,14 +1,11 @@
--- `entry_at` meets its contract. Past the last entry nothing is left of the bytes; else the rest of them begins with the entry.
+-- `entry_at` meets its contract. Past the last entry nothing is left of the bytes; else the twelve bytes from there on are read one by one.
 use mathlib.Core.Path.{◌∙◌}
 use native.Mathlib.Omega.{arith}
-use Rattle.call_log.proofs.DecodeLaws.{rest_begins, none_left}
+use Rattle.call_log.proofs.DecodeLaws.{none_left, zeros_read, bytes_read}
 use Rattle.call_log.proofs.decode.entry_at.Goals as goal
 
 pub returns-then-log-i : goal.returns-then-log-i
-returns-then-log-i c = c.no_entry.ensures ∙ none_left c.args.log.now c.args.i (omega arith)
-
-pub returns-then-log-at : goal.returns-then-log-at
-returns-then-log-at c = c.no_entry-then-log-at.ensures ∙ none_left c.args.log.now c.args.i (omega arith)
+returns-then-log-i c = zeros_read c.default.result c.default.ensures ∙ none_left c.args.log.now c.args.i (omega arith)
 
 pub returns : goal.returns
-returns c = c.first_entry.ensures ∙ rest_begins c.args.log.now c.args.i
+returns c = c.from.ensures ∙ bytes_read _ c.args.log.now c.args.i (λ j u. c.loop-k.invariant j (omega (arith, u, c.loop-k-test.false)))

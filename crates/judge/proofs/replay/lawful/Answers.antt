@@ -19,11 +19,11 @@ of_kind new node held x w did r is told h = h ∙ ap (λ (y : What). lawful new 
 pub returns-else-hi-lo : goal.returns-else-hi-lo
 returns-else-hi-lo c =
     let a = c.args in
-    of_kind _ a.e.node (held_in a.nodes.now a.row a.ends) BottomNode _ _ _ c.in-BottomNode.is c.what_of-did.ensures
+    of_kind _ a.e.node (held_in a.nodes.now a.row a.ends) BottomNode _ _ _ c.in-BottomNode.is c.what-did.ensures
     (content_last a.nodes.now (a.row + lo_of a.ends) (a.row + hi_of a.ends) a.e.node c.if-hi-lo.false c.requires.0)
 
 pub returns-in-BottomNil : goal.returns-in-BottomNil
 returns-in-BottomNil c =
     let a = c.args in
-    of_kind _ a.e.node (held_in a.nodes.now a.row a.ends) BottomNil _ _ _ c.in-BottomNil.is c.what_of-did.ensures
+    of_kind _ a.e.node (held_in a.nodes.now a.row a.ends) BottomNil _ _ _ c.in-BottomNil.is c.what-did.ensures
     (content_empty a.nodes.now (a.row + lo_of a.ends) (a.row + hi_of a.ends) c.requires.0)
