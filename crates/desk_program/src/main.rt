@@ -1,174 +1,105 @@
-// The desk: one queue stepped by hand, by the lines on standard input. Each line is answered before the next is read.
+// The desk: one queue stepped by hand, by the lines on standard input. Each line is answered before the next is read: after a step with the word, the
+// slots, and the next stage or the result; a line that is not run with why. A write that fails is passed over.
 #![tactic(auto)]
 
 ghost use Rattle.std.specs.Prelude.{◌≤◌};
 
-use word::{Stage, Word};
+use at_desk::Queue;
+use std::io::Read;
+use word::Sizes;
 
-mod answers; // what is printed
+mod at_desk; // the queue that is stepped
 
 // A right line is far shorter, unless it is filled with blanks or zeros.
 const LINE_BYTES: usize = 256;
 
-// The lengths that stand for a longer line and for the end of standard input.
-const LONG: usize = 257;
-
-const END: usize = 258;
-
-// The next byte of standard input, if there is one more. Of a read that failed, `stdio::read` has said why.
-#[derive(Clone, Copy)]
-struct Got {
-    failed: bool,
-    more: bool,
-    byte: u8,
+// What came on standard input: a line without the line end, which the last line may lack; a longer one than the buffer; or the end, or a read that
+// failed, of which `stdio::read` has said why. What was read of a line before it is no line.
+enum Typed<'a> {
+    Line(&'a [u8]),
+    TooLong,
+    End,
 }
 
-// The word after a line, and whether there was a line.
-#[derive(Clone, Copy)]
-struct Turn {
-    on: bool,
-    word: Word,
-}
-
-fn get(rt: &HostRuntime) -> Got {
-    let mut one = [0u8; 1];
-    let got = stdio::read(rt, &mut rt.stdin(), &mut one);
-    Got {
-        failed: got.is_none(),
-        more: got == Some(1),
-        byte: one[0],
+// A line of so many bytes, of which those that there was room for are in the buffer.
+fn typed(buffer: &[u8], length: usize) -> Typed<'_> {
+    if length <= buffer.len() {
+        Typed::Line(&buffer[..length])
+    } else {
+        Typed::TooLong
     }
 }
 
-// Puts a byte after the n that are there, and answers how many there are then.
-fn put(buffer: &mut [u8], n: usize, byte: u8) -> usize {
-    if n < buffer.len() {
-        buffer[n] = byte;
-        return n + 1;
+// Reads a line and no byte of the next.
+fn read_line<'a, R: Read>(rt: &impl Eprint, from: &mut R, buffer: &'a mut [u8]) -> Typed<'a> {
+    let mut length: usize = 0;
+    // a proved loop has to end, and nothing says that a line does
+    for _ in 0..u64::MAX {
+        let mut byte = [0u8; 1];
+        match stdio::read(rt, from, &mut byte) {
+            None => break,
+            Some(0) if length == 0 => break,
+            Some(n) if n == 0 || byte == [b'\n'] => return typed(buffer, length),
+            Some(_) => {}
+        }
+        if length < buffer.len() {
+            buffer[length] = byte[0];
+        }
+        length = length.saturating_add(1);
     }
-    LONG
+    Typed::End
 }
 
-// Reads a line and no byte of the next, and answers its length without the line end, which the last line may lack. What was read of a line
-// before a read that failed is no line.
-fn read_line(rt: &HostRuntime, buffer: &mut [u8]) -> usize {
-    let mut n: usize = 0;
-    let mut turns = u64::MAX; // a proved loop has to end, and nothing says that a line does
-    while turns > 0 {
-        let got = get(rt);
-        if got.failed {
-            return END;
-        }
-        if !got.more {
-            return if n == 0 { END } else { n };
-        }
-        if got.byte == b'\n' {
-            return n;
-        }
-        n = put(buffer, n, got.byte);
-        turns -= 1;
-    }
-    END
-}
-
-// Does the step of a stage and prints what came of it.
-fn step(rt: &impl Print, width: u8, size: u8, word: Word, slots: &mut [u16], stage: Stage) -> Word {
-    let mut word = word;
-    let answer = desk::step(word::Sizes { width, size }, &mut word, slots, stage);
-    answers::queue(rt, word, slots);
-    answers::answer(rt, answer);
-    word
+fn too_long(rt: &impl Print) {
+    let _ = println!(rt; "not run: the line is longer than {LINE_BYTES} bytes");
 }
 
 // Answers a stage line.
-fn answer_line(rt: &HostRuntime, width: u8, size: u8, word: Word, slots: &mut [u16]) -> Turn {
-    let mut buffer = [0u8; LINE_BYTES];
-    let n = read_line(rt, &mut buffer);
-    if n == END {
-        return Turn {
-            on: false,
-            word: word,
-        };
-    }
-    if LINE_BYTES < n {
-        answers::too_long(rt);
-        return Turn {
-            on: true,
-            word: word,
-        };
-    }
-    let line = lines::read_stage(&buffer[..n]);
-    match line {
-        Ok(stage) => {
-            let after = step(rt, width, size, word, slots, stage);
-            Turn {
-                on: true,
-                word: after,
-            }
-        }
-        Err(why) => {
-            answers::not_run(rt, why);
-            Turn {
-                on: true,
-                word: word,
-            }
-        }
-    }
+fn answer(rt: &impl Print, queue: &mut Queue, line: &[u8]) {
+    let _ = match lines::read_stage(line) {
+        Ok(stage) => match queue.step(stage) {
+            Ok(next) => println!(rt; "{queue} {next}"),
+            Err(lent) => println!(rt; "{queue} refused 10 {lent}"),
+        },
+        Err(why) => println!(rt; "not run: {why}"),
+    };
 }
 
 // Steps a queue of C slots, all 0 at first, a line at a time.
-fn steps(rt: &HostRuntime, width: u8, size: u8)
-    requires { size ≤ 64 }
+fn steps<R: Read>(rt: &(impl Print + Eprint), from: &mut R, sizes: Sizes)
+    requires { sizes.size ≤ 64 }
 {
-    let mut all = [0u16; 64];
-    let used = size as usize;
-    let slots = &mut all[..used];
-    let mut word = Word {
-        bottom: 0,
-        top: 0,
-        tag: 0,
-    };
-    answers::queue(rt, word, slots);
-    answers::end_line(rt);
-    let mut turns = u64::MAX;
-    while turns > 0 {
-        let after = answer_line(rt, width, size, word, slots);
-        if !after.on {
-            return;
+    let mut slots = [0u16; 64];
+    let mut queue = Queue::new(sizes, &mut slots[..usize::from(sizes.size)]);
+    let _ = println!(rt; "{queue}");
+    for _ in 0..u64::MAX {
+        let mut buffer = [0u8; LINE_BYTES];
+        match read_line(rt, from, &mut buffer) {
+            Typed::Line(line) => answer(rt, &mut queue, line),
+            Typed::TooLong => too_long(rt),
+            Typed::End => break,
         }
-        word = after.word;
-        turns -= 1;
     }
 }
 
-// Answers a line of W and C, and after a right one all that follow; answers whether to read another such line.
-fn opening(rt: &HostRuntime) -> bool {
-    let mut buffer = [0u8; LINE_BYTES];
-    let n = read_line(rt, &mut buffer);
-    if n == END {
-        return false;
-    }
-    if LINE_BYTES < n {
-        answers::too_long(rt);
-        return true;
-    }
-    let sizes = lines::read_sizes(&buffer[..n]);
-    match sizes {
-        Ok(sizes) => {
-            steps(rt, sizes.width, sizes.size);
-            false
-        }
-        Err(why) => {
-            answers::not_opened(rt, why);
-            true
+// Takes the line of W and C, and after a right one all that follow.
+fn desk<R: Read>(rt: &(impl Print + Eprint), from: &mut R) {
+    for _ in 0..u64::MAX {
+        let mut buffer = [0u8; LINE_BYTES];
+        match read_line(rt, from, &mut buffer) {
+            Typed::Line(line) => match lines::read_sizes(line) {
+                Ok(sizes) => return steps(rt, from, sizes),
+                Err(why) => {
+                    let _ = println!(rt; "not run: {why}");
+                }
+            },
+            Typed::TooLong => too_long(rt),
+            Typed::End => break,
         }
     }
 }
 
 // The desk until the end of standard input.
 fn main(rt: HostRuntime) {
-    let mut turns = u64::MAX;
-    while turns > 0 && opening(&rt) {
-        turns -= 1;
-    }
+    desk(&rt, &mut rt.stdin());
 }

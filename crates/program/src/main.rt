@@ -4,7 +4,7 @@
 
 use std::env::{Env, FillError};
 
-mod print; // lines of numbers
+mod print; // lines of more than one kind
 
 // One byte more than the longest good run file, which has 3 + (1 + 8) + (2 + 3 × 256) + (2 + 4,096) = 4,880. The rest of a longer file is not
 // read, and its reply is that of these bytes. For up to the first thing that is wrong each count is in its range, so a section that is reached
@@ -18,14 +18,16 @@ const JUDGED_BYTES: usize = call_log::LONGEST_LOG + 1;
 
 // The log, or what it leaves in each queue, its counts and the judge's number.
 fn print_run(rt: &impl Print, log: &[u8], entries: u16, steps: u16, gone: u16, left: bool) {
-    let verdict = judge::judge(log);
     if left {
         print::left(rt, log);
-        print::unless_promised(rt, gone);
+        if 0 < gone {
+            let _ = println!(rt; "gone-round: nothing is promised of these nodes");
+        }
     } else {
         print::entries(rt, log, entries);
     }
-    print::counts(rt, entries, steps, gone, verdict.number);
+    let verdict = judge::judge(log).number;
+    let _ = println!(rt; "entries {entries} steps {steps} gone-round {gone} judge {verdict}");
 }
 
 fn run_file(rt: &impl Print, file: &[u8], left: bool) {
@@ -33,11 +35,12 @@ fn run_file(rt: &impl Print, file: &[u8], left: bool) {
     let mut report = [0u16; 4];
     let mut table = [0u16; bench::TABLE_SIZE];
     let log = bench::run(file, &mut buffer, &mut report, &mut table);
-    if report[0] != 0 {
-        print::refused(rt, report[0]);
-        return;
+    let [refused, entries, steps, gone] = report;
+    if refused == 0 {
+        print_run(rt, log, entries, steps, gone, left);
+    } else {
+        let _ = println!(rt; "refused {refused}");
     }
-    print_run(rt, log, report[1], report[2], report[3], left);
 }
 
 // Runs the file on standard input.
@@ -53,7 +56,7 @@ fn judge(rt: &HostRuntime) {
     let mut log = [0u8; JUDGED_BYTES];
     if let Some(n) = stdio::read(rt, &mut rt.stdin(), &mut log) {
         let verdict = judge::judge(&log[..n]);
-        print::verdict(rt, verdict.number, verdict.entry);
+        let _ = println!(rt; "judge {} entry {}", verdict.number, verdict.entry);
     }
 }
 

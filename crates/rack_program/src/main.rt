@@ -2,8 +2,6 @@
 // or `refused` and the number of what is no rack.
 #![tactic(auto)]
 
-use stdio::{last, line, text};
-
 // As much as is read, and as many files as are replied to: whoever packs more makes two racks. A longer rack, of whose end nothing is known, is not run.
 const RACK_BYTES: usize = 65536;
 
@@ -11,47 +9,38 @@ const REPLY_BYTES: usize = 8;
 
 const MOST_FILES: usize = 1024;
 
-// Reply i: its number, and the four after it.
-fn print_reply(rt: &impl Print, replies: &[u8], i: u16) {
-    let at = REPLY_BYTES * (i as usize);
-    line(
-        rt,
-        base::byte_at(replies, at) as u16,
-        &[
-            base::number_at(replies, at + 1),
-            base::number_at(replies, at + 3),
-            base::number_at(replies, at + 5),
-            base::byte_at(replies, at + 7) as u16,
-        ],
-    );
-}
-
+// So many replies, a line each: the number, and the four numbers after it.
 fn print_replies(rt: &impl Print, replies: &[u8], count: u16) {
-    let mut i: u16 = 0;
-    while i < count {
-        print_reply(rt, replies, i);
-        i = i + 1;
+    for reply in replies.chunks_exact(REPLY_BYTES).take(usize::from(count)) {
+        let _ = println!(rt;
+            "{} {} {} {} {}",
+            base::byte_at(reply, 0),
+            base::number_at(reply, 1),
+            base::number_at(reply, 3),
+            base::number_at(reply, 5),
+            base::byte_at(reply, 7)
+        );
     }
 }
 
 fn run_rack(rt: &impl Print, files: &[u8]) {
     let mut log = [0u8; call_log::LONGEST_LOG];
     let mut replies = [0u8; REPLY_BYTES * MOST_FILES];
-    if let Err(refusal) = rack::rack(files, &mut log, &mut replies) {
-        last(rt, b"refused ", u16::from(u8::from(refusal)));
-        return;
+    match rack::rack(files, &mut log, &mut replies) {
+        Ok(()) => print_replies(rt, &replies, base::number_at(files, 0)),
+        Err(refusal) => {
+            let _ = println!(rt; "refused {}", u8::from(refusal));
+        }
     }
-    print_replies(rt, &replies, base::number_at(files, 0));
 }
 
 fn main(rt: HostRuntime) {
     let mut files = [0u8; RACK_BYTES + 1];
-    let Some(n) = stdio::read(&rt, &mut rt.stdin(), &mut files) else {
-        return;
-    };
-    if RACK_BYTES < n {
-        text(&rt, b"longer than 65536 bytes\n");
-        return;
+    match stdio::read(&rt, &mut rt.stdin(), &mut files) {
+        Some(n) if n <= RACK_BYTES => run_rack(&rt, &files[..n]),
+        Some(_) => {
+            let _ = println!(rt; "longer than {RACK_BYTES} bytes");
+        }
+        None => {} // the read failed, and it has been said why
     }
-    run_rack(&rt, &files[..n]);
 }

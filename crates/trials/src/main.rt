@@ -93,7 +93,7 @@ impl Case {
             b'j' => show::judged(rt, &file[..n]),
             _ => show::read(rt, &file[..n]),
         }
-        let _ = println!(rt;);
+        let _ = println!(rt);
     }
 
     // A byte of a line that is not its end. The name is printed as it comes.

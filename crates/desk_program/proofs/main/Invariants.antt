@@ -1,5 +1,0 @@
--- The measure is the number of turns that are left.
-use Rattle.desk_program.proofs.main.Given as goal
-
-abbrev pub decreases-loop-turns : goal.decreases-loop-turns
-decreases-loop-turns l = l.turns
