@@ -1,13 +1,11 @@
 -- Laws of the program's loop: what it keeps, one turn more, and its end.
 use Prim.Native.Nat.{ℕ, suc, ◌+◌, ◌-◌, ◌*◌, ◌≤◌, ◌<◌}
 use mathlib.Core.Path.{◌≡◌, refl, sym, ap, ◌∙◌, subst}
-use mathlib.Core.Bool.{Bool, true, false, cond, ◌&&◌}
+use mathlib.Core.Bool.{Bool, true, false, cond}
 use mathlib.Core.Logic.{◌⊎◌, inl, inr}
 use mathlib.Core.List.{List, [], ◌∷◌}
 use native.Mathlib.Omega.{arith}
 use native.Mathlib.Decide.{dec_lt}
-use borrow.Author.Tests.{ltb-true, ltb-false}
-use lib.Dec.{ltb}
 use lib.ListN.{length, get_or, take, drop, length-append, length-drop, take-append-drop, drop_of_length-le, replicate, get_or-replicate}
 use Rattle.base.specs.Bytes.{put_at}
 use Rattle.call_log.specs.Encode.{entry_bytes}
@@ -32,7 +30,7 @@ use Rattle.runs.specs.Run.{lowest, close, closing_steps}
 use Rattle.runs.specs.Turn.{turn}
 use Rattle.runs.proofs.ClosingLaws.{lowest_busy}
 use Rattle.base.proofs.Bytes.{put_same_length}
-use Rattle.base.proofs.Cases.{never, ever}
+use Rattle.base.proofs.Cases.{ever}
 use Rattle.runs.proofs.TurnLaws.{CountedAfter, counted_turn}
 
 -- a step of the program carries on what the program stands for
@@ -158,21 +156,6 @@ walked_start f N closing calls ps b flat log whole h v l = (
   omega arith,
 )
 
--- the test of the loop
-pub goes_on : (i l e N : ℕ) → (ltb i l && ltb e N) ≡ true → i < l
-goes_on i l e N = by (ltb i l) refl
-  where
-    by : (t : Bool) → ltb i l ≡ t → (t && ltb e N) ≡ true → i < l
-    by true d h = ltb-true i l d
-    by false d h = never h
-
-stops : (i l e N : ℕ) → (ltb i l && ltb e N) ≡ false → (l ≤ i) ⊎ (N ≤ e)
-stops i l e N = by (ltb i l) refl
-  where
-    by : (t : Bool) → ltb i l ≡ t → (t && ltb e N) ≡ false → (l ≤ i) ⊎ (N ≤ e)
-    by true d h = inr (ltb-false e N h)
-    by false d h = inl (ltb-false i l d)
-
 module _ (f : Sizes) (N n : ℕ) (closing : Bool) (calls : List Call) (ps : List ℕ) (log₀ : List ℕ) (s₀ : State) (i : ℕ) (b : HeldBench)
     (flat log : List ℕ)
     (h : Walked f N n closing calls ps log₀ s₀ i b flat log) where
@@ -187,11 +170,12 @@ module _ (f : Sizes) (N n : ℕ) (closing : Bool) (calls : List Call) (ps : List
             (arith, h.1, ap (λ (y : Bench). y.steps) g.bench, walk_step f.width f.size calls closing (get_or ps i 0) (state_in f.size b flat)),
       )
 
-  rest : (l : ℕ) → l ≡ length ps → (ltb i l && ltb b.entries N) ≡ false
+  -- the schedule is at its end, or every call is in the log
+  rest : (length ps ≤ i) ⊎ (N ≤ b.entries)
       → walked closing f.width f.size calls (drop i ps) (walked closing f.width f.size calls (take i ps) s₀)
       ≡ waited closing (length (drop i ps)) (walked closing f.width f.size calls (take i ps) s₀)
   unfolding walked
-  rest l e t = by (stops i l b.entries N t)
+  rest = by
     where
       x : State
       x = walked closing f.width f.size calls (take i ps) s₀
@@ -200,22 +184,31 @@ module _ (f : Sizes) (N n : ℕ) (closing : Bool) (calls : List Call) (ps : List
       none true = omega arith
       none false = omega arith
 
-      by : (l ≤ i) ⊎ (N ≤ b.entries) → walked closing f.width f.size calls (drop i ps) x ≡ waited closing (length (drop i ps)) x
-      by (inl k) = rw (drop_of_length-le ps {i = i} (omega arith)) (with_steps_lem x (x.bench.steps + cond closing 0 0) (none closing))
+      by : (length ps ≤ i) ⊎ (N ≤ b.entries) → walked closing f.width f.size calls (drop i ps) x ≡ waited closing (length (drop i ps)) x
+      by (inl k) = rw (drop_of_length-le ps {i = i} k) (with_steps_lem x (x.bench.steps + cond closing 0 0) (none closing))
       by (inr k) =
           walked_waits f.width f.size calls closing (drop i ps) x
           (omega (arith, h.0.left, ap (λ (y : Bench). total y.processes) h.0.becomes.bench))
 
-  pub walked_all : (l m : ℕ) → l ≡ length ps → (ltb i l && ltb b.entries N) ≡ false → m ≡ cond closing 0 (length ps - i)
+  pub walked_all : (m : ℕ) → (length ps ≤ i) ⊎ (N ≤ b.entries) → m ≡ cond closing 0 (length ps - i)
       → Becomes f.size n log₀ (walked closing f.width f.size calls ps s₀) (with_steps b (b.steps + m)) flat log
-  walked_all l m e t k =
+  walked_all m t k =
       subst (λ (y : State). Becomes f.size n log₀ y (with_steps b (b.steps + m)) flat log) (sym all)
       (becomes_waited f.size n log₀ (walked closing f.width f.size calls (take i ps) s₀) closing (length (drop i ps)) m (k ∙ ap (cond closing 0) (sym (length-drop i ps))) b flat log h.0.becomes)
     where
       all : walked closing f.width f.size calls ps s₀ ≡ waited closing (length (drop i ps)) (walked closing f.width f.size calls (take i ps) s₀)
       all =
           ap (λ (l : List ℕ). walked closing f.width f.size calls l s₀) (sym (take-append-drop i ps))
-          ∙ walked_append f.width f.size calls closing (take i ps) (drop i ps) s₀ ∙ rest l e t
+          ∙ walked_append f.width f.size calls closing (take i ps) (drop i ps) s₀ ∙ rest t
+
+  pub walked_end : length ps ≤ i → Becomes f.size n log₀ (walked closing f.width f.size calls ps s₀) b flat log
+  walked_end l =
+      let e : b.steps + 0 ≡ b.steps = omega arith in
+      subst (λ (m : ℕ). Becomes f.size n log₀ (walked closing f.width f.size calls ps s₀) (with_steps b m) flat log) e (walked_all 0 (inl l) (none closing))
+    where
+      none : (m : Bool) → 0 ≡ cond m 0 (length ps - i)
+      none true = refl
+      none false = omega arith
 
 -- the loop of the closing, after so many rounds
 pub record Closing (f : Sizes) (N n : ℕ) (log₀ : List ℕ) (s₀ : State) (done : ℕ) (b : HeldBench) (flat log : List ℕ) : Type 0 where

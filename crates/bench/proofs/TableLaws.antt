@@ -8,14 +8,20 @@ use lib.ListN.{length, get_or, take, drop, set, replicate, length-append, length
 use lib.ListN.{get_or-replicate, get_or-append, get_or-eq_default}
 use lib.Seq.{sets-eq, length-take-le, get_or-take, get_or-drop, get_or-append-add, ext_get_or}
 use borrow.Author.Tests.{lt-ltb, le-ltb, le-leb}
+use native.Mathlib.Numerals.{add-one}
 use Rattle.base.specs.Bytes.{put_at}
+use Rattle.base.proofs.Cases.{if_set}
+use Rattle.runfile.specs.Check.{sum}
+use Rattle.runfile.proofs.CheckLaws.{sum_next}
+use Rattle.runs.specs.State.{waiting, scripted}
+use Rattle.records.specs.declared.Process.{Process as HeldProcess}
 use Rattle.base.specs.Lists.{list_of}
 use Rattle.base.proofs.Lists.{list_of-length, list_of_get_d}
 use Rattle.word.specs.declared.Word.{Word}
 use Rattle.runfile.specs.File.{length_at, first_lengths}
 use Rattle.runs.specs.Run.{table_row, in_table}
-use Rattle.records.specs.Inner.Records.{slots_place}
-use Rattle.bench.specs.Inner.Layout.{slots_of, slots_in}
+use Rattle.records.specs.Inner.Records.{process_in, slots_place}
+use Rattle.bench.specs.Inner.Layout.{idle_held, process_at_in, slots_of, slots_in}
 use Rattle.bench.proofs.LayoutLaws.{slots_get}
 
 -- the script length of process p; from P on there is none
@@ -24,6 +30,27 @@ share_there s P p h = sym (get_or-take P (drop 4 s) p 0 h ∙ get_or-drop 4 s p 
 
 pub share_past : (s : List ℕ) (P p : ℕ) → P ≤ p → 0 ≡ get_or (first_lengths s P) p 0
 share_past s P p h = sym (get_or-eq_default (first_lengths s P) 0 {n = p} (omega (arith, length-take P (drop 4 s))))
+
+-- the first p processes have their scripts, and the next one begins where they stop
+pub record Scripts (shares : List ℕ) (p next : ℕ) (l : List HeldProcess) : Type 0 where
+  pub whole : length l ≡ 8
+  pub begins : next ≡ sum (take p shares)
+  pub small : next ≤ 255 * p
+  pub each : (k : ℕ) → k < p → process_at_in l k ≡ scripted shares k
+
+pub script_more : (shares : List ℕ) (p next n : ℕ) (l : List HeldProcess) (x : HeldProcess) → Scripts shares p next l → p < 8
+    → (n ≡ get_or shares p 0) × (n ≤ 255) → process_in x ≡ waiting next (next + n) → Scripts shares (p + 1) (next + n) (set l p x)
+script_more shares p next n l x h lt e is =
+    let stop : next + n ≡ sum (take (p + 1) shares) = omega (arith, h.begins, sum_next shares p, e.0) in
+    let scripted_is : process_in x ≡ scripted shares p = is ∙ λ i. waiting (h.begins i) ((rw add-one at stop) i) in
+    record {
+      whole = length-set l p x ∙ h.whole;
+      begins = stop;
+      small = omega (arith, h.small, e.1);
+      each = λ k m.
+          if_set (λ (y : HeldProcess). process_in y ≡ scripted shares k) l p k x idle_held (omega (arith, h.whole))
+          (λ d. scripted_is ∙ ap (scripted shares) (sym d)) (λ ne. h.each k (omega arith));
+    }
 
 -- numbers put into a list, by places
 module _ (at : ℕ) (xs l : List ℕ) (h : at + length xs ≤ length l) where

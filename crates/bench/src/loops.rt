@@ -8,9 +8,9 @@ ghost use Rattle.runfile.specs.File.{first_calls};
 ghost use Rattle.bench.specs.Inner.Layout.{process_at_in, state_in, Becomes, ToWalk, ToClose};
 ghost use Rattle.bench.specs.Inner.Walk.{walked};
 
-use crate::turn::{step_slots, tell};
+use crate::turn::{Turn, step_slots};
 use crate::{Bench, CLOSING_ROUNDS};
-use records::{Process, if_so, process_after, queue_of, ready};
+use records::{Process, if_so};
 use runfile::Shape;
 use word::Stage;
 
@@ -31,38 +31,45 @@ pub(crate) fn walk(
 {
     let mut run = state;
     let idle = if_so(closing, 0, 1);
-    let mut i: usize = 0;
-    while (i < schedule.len()) & (run.entries < shape.calls) {
-        let p = schedule[i];
+    for (i, &p) in schedule.iter().enumerate() {
+        if shape.calls <= run.entries {
+            run.steps += if_so(closing, 0, (schedule.len() - i) as u16);
+            return run;
+        }
         let at = p as usize;
         let n = run.steps;
-        i = i + 1;
-        let of = ready(file, shape, closing, n, run.processes[at]);
+        let of = run.processes[at].ready(file, shape, closing, n);
         if of.is_idle() {
             run.steps = n + idle;
             continue;
         }
         run.steps = n + 1;
-        let q = queue_of(p, of);
+        let q = of.queue_of(p);
         let on = q as usize;
         let word = run.words[on];
         let resets = run.resets[on];
         let stepped = step_slots(shape.width, shape.size, word, slots, q, of);
-        let changed = stepped.word;
-        run.words[on] = changed;
-        let then = process_after(n, of, resets, stepped);
+        run.words[on] = stepped.word;
+        let then = of.after(n, resets, stepped);
         if !then.is_idle() {
             run.processes[at] = then;
             continue;
         }
         let owner = run.processes[on];
-        let told = tell(log, p, n, run.entries, of, owner, word, resets, stepped);
+        let turn = Turn {
+            p,
+            n,
+            of,
+            owner,
+            word,
+            resets,
+        };
+        let told = turn.tell(log, run.entries, stepped);
         run.processes[at] = then;
         run.resets[on] = told.resets;
-        run.entries = run.entries + told.more;
-        run.gone = run.gone + told.gone;
+        run.entries += told.more;
+        run.gone += told.gone;
     }
-    run.steps = run.steps + if_so(closing, 0, (schedule.len() - i) as u16);
     run
 }
 
@@ -73,18 +80,12 @@ fn bit(stage: Stage) -> u8
 }
 
 // The half-done processes, as a set of eight bits.
-fn half_done(processes: [Process; 8]) -> u8
-    requires { length processes ≡ 8 }
-    ensures { result ≡ half_done (list_of 8 (process_at_in processes)) }
+fn half_done(processes: &[Process; 8]) -> u8
+    ensures { result ≡ half_done (list_of 8 (process_at_in processes.now)) }
 {
     let mut set: u8 = 0;
-    let mut i: usize = 8;
-    while 0 < i {
-        i = i - 1;
-        let of = processes[i];
-        let stage = of.stage;
-        let half = bit(stage);
-        set = 2 * set + half;
+    for i in (0..processes.len()).rev() {
+        set = 2 * set + bit(processes[i].stage);
     }
     set
 }
@@ -102,17 +103,13 @@ pub(crate) fn close(
     ensures { Becomes shape.size state.entries log.old (close_of shape.width shape.size closing_steps (state_in shape.size state slots.old)) result slots.new log.new }
 {
     let mut after = state;
-    let mut done: u8 = 0;
-    while done < CLOSING_ROUNDS {
-        let processes = after.processes;
-        let set = half_done(processes);
+    for _ in 0..CLOSING_ROUNDS {
+        let set = half_done(&after.processes);
         if set == 0 {
             return after;
         }
-        let p = u8::trailing_zeros(set) as u8;
-        let lowest = [p; 6];
-        after = walk(file, shape, &lowest, after, true, slots, log);
-        done = done + 1;
+        let lowest = set.trailing_zeros() as u8;
+        after = walk(file, shape, &[lowest; 6], after, true, slots, log);
     }
     after
 }

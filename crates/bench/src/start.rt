@@ -1,10 +1,9 @@
 // The start of a run: eight fresh queues, and each process with its share of the calls.
-ghost use Rattle.std.specs.Prelude.{◌≡◌, ◌+◌, ◌*◌, ◌≤◌, ◌<◌, get_or, take};
-ghost use Rattle.runfile.specs.Check.{sum};
+ghost use Rattle.std.specs.Prelude.{◌≡◌, ◌≤◌, get_or};
 ghost use Rattle.runfile.specs.File.{first_lengths};
 ghost use Rattle.records.specs.Inner.Records.{process_in};
 ghost use Rattle.bench.specs.Inner.Layout.{bench_in, Whole};
-ghost use Rattle.runs.specs.State.{scripted as scripted_of, start_bench};
+ghost use Rattle.runs.specs.State.{waiting as waiting_of, start_bench};
 
 use crate::Bench;
 use records::Process;
@@ -23,12 +22,10 @@ fn share(file: &[u8], processes: u8, p: u8) -> u16
     }
 }
 
-// Process p before its first call: its calls begin where those of the process before it stop.
-fn scripted(file: &[u8], processes: u8, p: u8, next: u16) -> Process
-    requires { (next ≡ sum (take p (first_lengths file.now processes))) × (next ≤ 255 * p) × (p < 8) }
-    ensures { (process_in result ≡ scripted_of (first_lengths file.now processes) p) × (result.stop ≤ 255 * (p + 1)) }
+// A process before its first call, with the calls of its script.
+fn waiting(next: u16, stop: u16) -> Process
+    ensures { process_in result ≡ waiting_of next stop }
 {
-    let stop = next + share(file, processes, p);
     Process {
         stage: Stage::Idle,
         call: Call::Push(0),
@@ -40,23 +37,22 @@ fn scripted(file: &[u8], processes: u8, p: u8, next: u16) -> Process
     }
 }
 
+// The calls of each process begin where those of the process before it stop.
 pub(crate) fn start(file: &[u8], processes: u8) -> Bench
     ensures { (bench_in result ≡ start_bench (first_lengths file.now processes)) × (result.entries ≡ 0) × Whole result }
 {
+    let mut all = [waiting(0, 0); 8];
+    let mut next: u16 = 0;
+    for p in 0..8u8 {
+        let stop = next + share(file, processes, p);
+        all[p as usize] = waiting(next, stop);
+        next = stop;
+    }
     let age = PackedAge { word: 0 };
-    let word = PackedWord { bottom: 0, age };
-    let a = scripted(file, processes, 0, 0);
-    let b = scripted(file, processes, 1, a.stop);
-    let c = scripted(file, processes, 2, b.stop);
-    let d = scripted(file, processes, 3, c.stop);
-    let e = scripted(file, processes, 4, d.stop);
-    let f = scripted(file, processes, 5, e.stop);
-    let g = scripted(file, processes, 6, f.stop);
-    let h = scripted(file, processes, 7, g.stop);
     Bench {
-        words: [word; 8],
+        words: [PackedWord { bottom: 0, age }; 8],
         resets: [0; 8],
-        processes: [a, b, c, d, e, f, g, h],
+        processes: all,
         entries: 0,
         steps: 0,
         gone: 0,

@@ -32,13 +32,10 @@ pub(crate) fn fill(
     ensures { table.new ≡ list_of table_size (words_table processes words (slots_in size slots.now)) }
 {
     *table = [0; TABLE_SIZE];
-    let mut q: u8 = 0;
-    while q < processes {
+    for q in 0..processes {
         let on = q as usize;
-        let word = words[on];
         let from = slots_place(size, q);
-        let to = from + size as usize;
-        put_row(table, TABLE_ROW * on, word.into(), &slots[from..to]);
-        q = q + 1;
+        let part = &slots[from..from + size as usize];
+        put_row(table, TABLE_ROW * on, words[on].into(), part);
     }
 }

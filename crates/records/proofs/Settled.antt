@@ -7,7 +7,7 @@ use Rattle.runs.specs.State.{Process}
 use Rattle.records.specs.Inner.Records.{process_in, Refuses}
 use Rattle.records.specs.declared.Process.{Process as HeldProcess}
 
--- of ready and process_after
+-- of ready and after
 pub record_is : (x : Process) (r r' : HeldProcess) → process_in r ≡ x → process_in r' ≡ x → r ≡ r'
 record_is x r r' p q = λ i. let e : Process = one_value p q i in record {
   stage = e.stage;

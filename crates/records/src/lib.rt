@@ -7,7 +7,7 @@ mod turn; // a process before and after its step
 
 pub use crate::refusal::refuse;
 pub use crate::slots::slots_place;
-pub use crate::turn::{gone_round, if_so, is_take, process_after, queue_of, ready};
+pub use crate::turn::{if_so, is_take};
 use runfile::Call;
 use word::Stage;
 

@@ -6,7 +6,7 @@ use mathlib.Core.List.{List, [], ◌∷◌}
 use native.Mathlib.Omega.{arith}
 use native.Mathlib.Nat.{div-add-mod', mod-lt, pow-suc}
 use lib.Count.{count_trailing_zeros, trailing_of_zero, under}
-use lib.ListN.{length, get_or, drop, length-drop, drop_of_length-le}
+use lib.ListN.{length, get_or, drop, length-drop}
 use lib.Pow.{pow_mono}
 use lib.Seq.{drop-cons}
 use Rattle.word.specs.Stages.{is_idle}
@@ -65,17 +65,11 @@ module _ (rs : List Process) (eight : length rs ≡ 8) where
       let m = pow_mono {i = length (drop i rs)} {j = 7} (simp length-drop (omega arith)) in
       omega (arith, half_below (drop i rs))
 
-  pub half_start : 0 ≡ half_done (drop 8 rs)
-  half_start = ap half_done (sym (drop_of_length-le rs {i = 8} (omega arith)))
-
   pub half_loop : (i set half : ℕ) → set ≡ half_done (drop i rs) → 0 < i → i ≤ 8 → half ≡ bit (is_idle (get_or rs (i - 1) nobody).stage)
       → 2 * set + half ≡ half_done (drop (i - 1) rs)
   half_loop i set half e h l d =
       let k : suc (i - 1) ≡ i = omega arith in
       rw (half_next rs (i - 1) nobody (omega arith), k, e, d)
-
-  pub half_all : (i set : ℕ) → set ≡ half_done (drop i rs) → i ≤ 0 → set ≡ half_done rs
-  half_all i set e h = let k : i ≡ 0 = omega arith in e ∙ ap (λ (j : ℕ). half_done (drop j rs)) k
 
   -- the set at the closing
   pub next_closed : (set : ℕ) → set ≡ half_done rs → count_trailing_zeros 8 set ≡ lowest rs

@@ -1,7 +1,7 @@
 -- `loops::half_done` meets its contract.
 use mathlib.Core.Path.{◌≡◌, sym, ap, ◌∙◌}
 use mathlib.Core.List.{List}
-use Prim.Native.Nat.{ℕ, ◌<◌}
+use Prim.Native.Nat.{ℕ, ◌-◌, ◌<◌}
 use native.Mathlib.Omega.{arith}
 use lib.ListN.{length, get_or}
 use Rattle.base.specs.Lists.{list_of}
@@ -11,7 +11,7 @@ use Rattle.records.specs.declared.Process.{Process as HeldProcess}
 use Rattle.bench.specs.Inner.Layout.{idle_held, process_at_in}
 use Rattle.word.specs.Stages.{is_idle}
 use Rattle.runs.specs.Inner.Half.{bit}
-use Rattle.runs.proofs.HalfLaws.{half_loop}
+use Rattle.runs.proofs.HalfLaws.{bit_most, half_fits, half_loop}
 use Rattle.bench.proofs.loops.half_done.Goals as goal
 
 abbrev all : List HeldProcess → List Process
@@ -24,11 +24,24 @@ half_of : (l : List HeldProcess) (i half : ℕ) → i < 8 → half ≡ bit (is_i
     → half ≡ bit (is_idle (get_or (all l) i nobody).stage)
 half_of l i half lt e = e ∙ ap (λ (x : Process). bit (is_idle x.stage)) (sym (list_of_get_d 8 (process_at_in l) nobody i lt))
 
+pub overflow_mul-set : goal.overflow_mul-set
+overflow_mul-set c =
+    let h = c.loop-i in
+    omega (arith, half_fits (all c.args.processes.now) (eight c.args.processes.now) h.i h.set h.invariant c.loop-i-test.true)
+
+pub overflow_add-set : goal.overflow_add-set
+overflow_add-set c =
+    let h = c.loop-i in
+    omega (
+      arith,
+      half_fits (all c.args.processes.now) (eight c.args.processes.now) h.i h.set h.invariant c.loop-i-test.true,
+      c.bit.ensures,
+      bit_most (is_idle (get_or c.args.processes.now (h.i - 1) idle_held).stage),
+    )
+
 pub loop-i-preserved : goal.loop-i-preserved
 loop-i-preserved c =
-    let l = c.args.processes in
+    let l = c.args.processes.now in
     let h = c.loop-i in
-    let more = c.loop-i-test.true in (
-      omega arith,
-      half_loop (all l) (eight l) _ _ _ h.invariant.1 more h.invariant.0 (half_of l _ _ (omega (arith, h.invariant.0, more)) c.bit-half.ensures),
-    )
+    let more = c.loop-i-test.true in
+    half_loop (all l) (eight l) _ _ _ h.invariant more (omega arith) (half_of l _ _ (omega (arith, more)) c.bit.ensures)

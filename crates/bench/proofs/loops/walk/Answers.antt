@@ -1,9 +1,9 @@
 -- `loops::walk` meets its contract: after i steps the bench stands for the state that the first i bytes of the schedule lead to.
-use Prim.Native.Nat.{ℕ, ◌+◌, ◌≤◌, ◌<◌}
-use mathlib.Core.Path.{◌≡◌, refl, sym, ap, ◌∙◌}
-use mathlib.Core.Bool.{Bool, true, false, ◌&&◌, cond}
+use Prim.Native.Nat.{ℕ, ◌+◌, ◌-◌, ◌≤◌, ◌<◌}
+use mathlib.Core.Path.{◌≡◌, sym, ap, ◌∙◌}
+use mathlib.Core.Bool.{Bool, true, false, cond}
+use mathlib.Core.Logic.{inr}
 use mathlib.Core.List.{List}
-use lib.Dec.{ltb}
 use lib.ListN.{length, get_or, set}
 use native.Mathlib.Omega.{arith}
 use Rattle.word.specs.Stages.{is_idle}
@@ -22,7 +22,7 @@ use Rattle.steps.specs.Packed.{PackedStep}
 use Rattle.records.specs.declared.Process.{Process as HeldProcess}
 use Rattle.bench.proofs.LayoutLaws.{held_resets, held_b2}
 use Rattle.bench.proofs.WayLaws.{with_steps, same_b2, way_idle, on_queue, way_on, way_ends}
-use Rattle.bench.proofs.RunLaws.{Walked, walked_start, walked_more, walked_all, goes_on}
+use Rattle.bench.proofs.RunLaws.{Walked, walked_start, walked_more, walked_all, walked_end}
 use Rattle.bench.proofs.loops.walk.Invariants.{calls_of}
 use Rattle.bench.proofs.loops.walk.Goals as goal
 
@@ -34,18 +34,15 @@ no_more : (t : Bool) (n : ℕ) → cond t 0 n ≤ n
 no_more true n = omega arith
 no_more false n = omega arith
 
--- a turn: what the function is given, how far the loop has come, and that the loop goes on
+-- a turn: what the function is given, how far the loop has come, and that it is not at its end
 module _ (file : List ℕ) (closing : Bool) (i : ℕ) {a : Shape} {schedule : List ℕ} {state run : Bench} {slots₀ log₀ slots log : List ℕ}
     (given : ToWalk a schedule state slots₀)
     (come : Walked (sizes_in a) a.calls state.entries closing (calls_of file a) schedule log₀ (state_in a.size state slots₀) i run slots log)
-    (on : (ltb i (length schedule) && ltb run.entries a.calls) ≡ true) where
+    (here : i < length schedule) where
   abbrev process : ℕ
   process = get_or schedule i 0
 
   -- the process is one of the run's
-  here : i < length schedule
-  here = goes_on _ _ run.entries a.calls on
-
   below_P : process < a.processes
   below_P = given.below i here
 
@@ -111,7 +108,6 @@ module _ (file : List ℕ) (closing : Bool) (i : ℕ) {a : Shape} {schedule : Li
 
 pub loop-i-init : goal.loop-i-init
 loop-i-init c = (
-  omega arith,
   c.requires.all_slots,
   c.if_so-idle.ensures,
   walked_start (sizes_in c.args.shape) c.args.shape.calls c.args.closing (calls_of c.args.file.now c.args.shape)
@@ -120,112 +116,127 @@ loop-i-init c = (
 
 pub overflow_add-run : goal.overflow_add-run
 overflow_add-run c =
-    omega (arith, steps_few c.args.file.now _ _ c.requires c.loop-i.invariant.3 c.loop-i-test.true, c.loop-i.invariant.2, one_most c.args.closing)
+    omega (
+      arith,
+      steps_few c.args.file.now _ _ c.requires c.loop-i.invariant.2 c.loop-i-test.true,
+      c.loop-i.invariant.2.1,
+      c.requires.few,
+      c.if_so.ensures,
+      no_more c.args.closing (length c.args.schedule.now - c.loop-i.i),
+    )
+
+pub returns-then-shape-run : goal.returns-then-shape-run
+returns-then-shape-run c =
+    walked_all (sizes_in c.args.shape) _ _ c.args.closing (calls_of c.args.file.now c.args.shape) c.args.schedule.now
+    _ _ _ _ _ _ c.loop-i.invariant.2 _ (inr c.if-shape-run.true) c.if_so.ensures
+
+pub overflow_add-run-then-is_idle : goal.overflow_add-run-then-is_idle
+overflow_add-run-then-is_idle c =
+    omega (arith, steps_few c.args.file.now _ _ c.requires c.loop-i.invariant.2 c.loop-i-test.true, c.loop-i.invariant.1, one_most c.args.closing)
 
 pub loop-i-preserved-then-is_idle : goal.loop-i-preserved-then-is_idle
 loop-i-preserved-then-is_idle c = (
-  omega (arith, here c.args.file.now _ _ c.requires c.loop-i.invariant.3 c.loop-i-test.true),
+  c.loop-i.invariant.0,
   c.loop-i.invariant.1,
-  c.loop-i.invariant.2,
-  waits c.args.file.now _ _ c.requires c.loop-i.invariant.3 c.loop-i-test.true c.ready-of.ensures
-      (sym c.is_idle.ensures ∙ c.if-is_idle.true) c.loop-i.invariant.2,
+  waits c.args.file.now _ _ c.requires c.loop-i.invariant.2 c.loop-i-test.true c.ready-of.ensures
+      (sym c.is_idle.ensures ∙ c.if-is_idle.true) c.loop-i.invariant.1,
 )
 
 pub bounds-run-on : goal.bounds-run-on
 bounds-run-on c =
-    q_small c.args.file.now _ _ c.requires c.loop-i.invariant.3 c.loop-i-test.true c.ready-of.ensures
+    q_small c.args.file.now _ _ c.requires c.loop-i.invariant.2 c.loop-i-test.true c.ready-of.ensures
     (sym c.is_idle.ensures ∙ c.if-is_idle.false) c.queue_of-q.ensures
 
 pub bounds-run-on-in-loop-i : goal.bounds-run-on-in-loop-i
 bounds-run-on-in-loop-i c =
-    q_small c.args.file.now _ _ c.requires c.loop-i.invariant.3 c.loop-i-test.true c.ready-of.ensures
+    q_small c.args.file.now _ _ c.requires c.loop-i.invariant.2 c.loop-i-test.true c.ready-of.ensures
     (sym c.is_idle.ensures ∙ c.if-is_idle.false) c.queue_of-q.ensures
 
 pub bounds-run-on-in-loop-i-2 : goal.bounds-run-on-in-loop-i-2
 bounds-run-on-in-loop-i-2 c =
-    q_small c.args.file.now _ _ c.requires c.loop-i.invariant.3 c.loop-i-test.true c.ready-of.ensures
+    q_small c.args.file.now _ _ c.requires c.loop-i.invariant.2 c.loop-i-test.true c.ready-of.ensures
     (sym c.is_idle.ensures ∙ c.if-is_idle.false) c.queue_of-q.ensures
 
 pub bounds-run-on-in-loop-i-3 : goal.bounds-run-on-in-loop-i-3
 bounds-run-on-in-loop-i-3 c =
-    q_small c.args.file.now _ _ c.requires c.loop-i.invariant.3 c.loop-i-test.true c.ready-of.ensures
+    q_small c.args.file.now _ _ c.requires c.loop-i.invariant.2 c.loop-i-test.true c.ready-of.ensures
     (sym c.is_idle.ensures ∙ c.if-is_idle.false) c.queue_of-q.ensures
 
 pub bounds-run-on-in-loop-i-4 : goal.bounds-run-on-in-loop-i-4
 bounds-run-on-in-loop-i-4 c =
-    q_small c.args.file.now _ _ c.requires c.loop-i.invariant.3 c.loop-i-test.true c.ready-of.ensures
+    q_small c.args.file.now _ _ c.requires c.loop-i.invariant.2 c.loop-i-test.true c.ready-of.ensures
     (sym c.is_idle.ensures ∙ c.if-is_idle.false) c.queue_of-q.ensures
 
 pub step_slots-stepped-requires : goal.step_slots-stepped-requires
 step_slots-stepped-requires c = (
-  c.loop-i.invariant.1,
-  q_small c.args.file.now _ _ c.requires c.loop-i.invariant.3 c.loop-i-test.true c.ready-of.ensures
+  c.loop-i.invariant.0,
+  q_small c.args.file.now _ _ c.requires c.loop-i.invariant.2 c.loop-i-test.true c.ready-of.ensures
       (sym c.is_idle.ensures ∙ c.if-is_idle.false) c.queue_of-q.ensures,
   c.requires.fit.size.1,
 )
 
 pub bounds-run-at-then-not-is_idle : goal.bounds-run-at-then-not-is_idle
-bounds-run-at-then-not-is_idle c = p_small c.args.file.now _ _ c.requires c.loop-i.invariant.3 c.loop-i-test.true
+bounds-run-at-then-not-is_idle c = p_small c.args.file.now _ _ c.requires c.loop-i.invariant.2 c.loop-i-test.true
 
 pub bounds-run-at-in-loop-i : goal.bounds-run-at-in-loop-i
-bounds-run-at-in-loop-i c = p_small c.args.file.now _ _ c.requires c.loop-i.invariant.3 c.loop-i-test.true
+bounds-run-at-in-loop-i c = p_small c.args.file.now _ _ c.requires c.loop-i.invariant.2 c.loop-i-test.true
 
 pub loop-i-preserved-then-not-is_idle : goal.loop-i-preserved-then-not-is_idle
 loop-i-preserved-then-not-is_idle c = (
-  omega (arith, here c.args.file.now _ _ c.requires c.loop-i.invariant.3 c.loop-i-test.true),
-  omega (arith, c.step_slots-stepped.auto.slots, c.loop-i.invariant.1),
-  c.loop-i.invariant.2,
-  stays c.args.file.now _ _ c.requires c.loop-i.invariant.3 c.loop-i-test.true c.ready-of.ensures (sym c.is_idle.ensures ∙ c.if-is_idle.false)
-      c.queue_of-q.ensures c.step_slots-stepped.ensures c.process_after-then.ensures (sym c.is_idle-in-loop-i.ensures ∙ c.if-not-is_idle.true),
+  omega (arith, c.step_slots-stepped.auto.slots, c.loop-i.invariant.0),
+  c.loop-i.invariant.1,
+  stays c.args.file.now _ _ c.requires c.loop-i.invariant.2 c.loop-i-test.true c.ready-of.ensures (sym c.is_idle.ensures ∙ c.if-is_idle.false)
+      c.queue_of-q.ensures c.step_slots-stepped.ensures c.after-then.ensures (sym c.is_idle-in-loop-i.ensures ∙ c.if-not-is_idle.true),
 )
 
-pub tell-told-requires : goal.tell-told-requires
-tell-told-requires c =
-    let few = steps_few c.args.file.now _ _ c.requires c.loop-i.invariant.3 c.loop-i-test.true in
+pub invariant_of-turn : goal.invariant_of-turn
+invariant_of-turn c =
+    let few = steps_few c.args.file.now _ _ c.requires c.loop-i.invariant.2 c.loop-i-test.true in
     let p = get_or c.args.schedule.now c.loop-i.i 0 in
     let l = c.loop-i.run in
-    let counted = c.loop-i.invariant.3.0.counted in
-    let small = q_small c.args.file.now _ _ c.requires c.loop-i.invariant.3 c.loop-i-test.true c.ready-of.ensures
-    (sym c.is_idle.ensures ∙ c.if-is_idle.false) c.queue_of-q.ensures in (
-      omega (arith, few),
-      omega (
-        arith,
-        few,
-        held_b2 l l.entries counted p (p_small c.args.file.now _ _ c.requires c.loop-i.invariant.3 c.loop-i-test.true),
-        ap (λ (x : Process). x.b2) c.ready-of.ensures,
-        same_b2 (calls_of c.args.file.now c.args.shape) l.steps (record_in l p) c.args.closing,
-      ),
-      omega (arith, few, held_b2 l l.entries counted c.queue_of-q.result small),
-      omega (arith, few, held_resets l l.entries counted c.queue_of-q.result small),
-    )
+    let counted = c.loop-i.invariant.2.0.counted in
+    let small = q_small c.args.file.now _ _ c.requires c.loop-i.invariant.2 c.loop-i-test.true c.ready-of.ensures
+    (sym c.is_idle.ensures ∙ c.if-is_idle.false) c.queue_of-q.ensures in record {
+      few = (
+        omega (arith, few),
+        omega (
+          arith,
+          few,
+          held_b2 l l.entries counted p (p_small c.args.file.now _ _ c.requires c.loop-i.invariant.2 c.loop-i-test.true),
+          ap (λ (x : Process). x.b2) c.ready-of.ensures,
+          same_b2 (calls_of c.args.file.now c.args.shape) l.steps (record_in l p) c.args.closing,
+        ),
+        omega (arith, few, held_b2 l l.entries counted c.queue_of-q.result small),
+        omega (arith, few, held_resets l l.entries counted c.queue_of-q.result small),
+      );
+    }
 
 pub overflow_add-run-in-loop-i-2 : goal.overflow_add-run-in-loop-i-2
 overflow_add-run-in-loop-i-2 c =
-    let few = steps_few c.args.file.now _ _ c.requires c.loop-i.invariant.3 c.loop-i-test.true in
+    let few = steps_few c.args.file.now _ _ c.requires c.loop-i.invariant.2 c.loop-i-test.true in
     let told = c.tell-told.ensures in
-    omega (arith, few, c.loop-i.invariant.3.0.counted.logged, told.more, entries_few told.over)
+    omega (arith, few, c.loop-i.invariant.2.0.counted.logged, told.more, entries_few told.over)
 
 pub overflow_add-run-in-loop-i-3 : goal.overflow_add-run-in-loop-i-3
 overflow_add-run-in-loop-i-3 c =
     let l = c.loop-i.run in
     omega (
       arith,
-      steps_few c.args.file.now _ _ c.requires c.loop-i.invariant.3 c.loop-i-test.true,
-      c.loop-i.invariant.3.0.counted.gone,
+      steps_few c.args.file.now _ _ c.requires c.loop-i.invariant.2 c.loop-i-test.true,
+      c.loop-i.invariant.2.0.counted.gone,
       c.tell-told.ensures.gone,
       gone_most (process_in c.ready-of.result) (get_or l.resets c.queue_of-q.result 0) c.step_slots-stepped.result.next,
     )
 
 pub loop-i-preserved : goal.loop-i-preserved
 loop-i-preserved c = (
-  omega (arith, here c.args.file.now _ _ c.requires c.loop-i.invariant.3 c.loop-i-test.true),
-  omega (arith, c.step_slots-stepped.auto.slots, c.loop-i.invariant.1),
-  c.loop-i.invariant.2,
-  ends c.args.file.now _ _ c.requires c.loop-i.invariant.3 c.loop-i-test.true c.ready-of.ensures (sym c.is_idle.ensures ∙ c.if-is_idle.false)
-      c.queue_of-q.ensures c.step_slots-stepped.ensures c.process_after-then.ensures c.tell-told.ensures,
+  omega (arith, c.step_slots-stepped.auto.slots, c.loop-i.invariant.0),
+  c.loop-i.invariant.1,
+  ends c.args.file.now _ _ c.requires c.loop-i.invariant.2 c.loop-i-test.true c.ready-of.ensures (sym c.is_idle.ensures ∙ c.if-is_idle.false)
+      c.queue_of-q.ensures c.step_slots-stepped.ensures c.after-then.ensures c.tell-told.ensures,
 )
 
 pub returns : goal.returns
 returns c =
-    walked_all (sizes_in c.args.shape) _ _ c.args.closing (calls_of c.args.file.now c.args.shape) c.args.schedule.now
-    _ _ _ _ _ _ c.loop-i.invariant.3 (length c.args.schedule.now) _ refl c.loop-i-test.false c.if_so.ensures
+    walked_end (sizes_in c.args.shape) _ _ c.args.closing (calls_of c.args.file.now c.args.shape) c.args.schedule.now
+    _ _ _ _ _ _ c.loop-i.invariant.2 c.loop-i-test.false

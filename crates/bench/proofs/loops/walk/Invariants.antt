@@ -1,5 +1,5 @@
 -- `loops::walk` meets its contract: after i steps the bench stands for the state that the first i bytes of the schedule lead to.
-use Prim.Native.Nat.{ℕ, ◌-◌, ◌≤◌}
+use Prim.Native.Nat.{ℕ}
 use mathlib.Core.Path.{◌≡◌}
 use mathlib.Core.Bool.{cond}
 use mathlib.Core.List.{List}
@@ -15,9 +15,6 @@ abbrev pub calls_of : List ℕ → Shape → List Call
 calls_of file shape = first_calls file shape.processes shape.calls
 
 abbrev pub invariant-loop-i : goal.invariant-loop-i
-invariant-loop-i l = (l.i ≤ length l.schedule) × (length l.slots ≡ 512) × (l.idle ≡ cond l.closing 0 1)
+invariant-loop-i l = (length l.slots ≡ 512) × (l.idle ≡ cond l.closing 0 1)
     × Walked (sizes_in l.shape) l.shape.calls l.initial.run.entries l.closing (calls_of l.file l.shape) l.schedule l.initial.log
     (state_in l.shape.size l.initial.run l.initial.slots) l.i l.run l.slots l.log
-
-abbrev pub decreases-loop-i : goal.decreases-loop-i
-decreases-loop-i l = length l.schedule - l.i

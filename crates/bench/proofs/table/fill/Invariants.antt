@@ -1,5 +1,5 @@
 -- The loop keeps: the rows of the first q queues stand in the table (`Filled`).
-use Prim.Native.Nat.{ℕ, ◌-◌, ◌≤◌}
+use Prim.Native.Nat.{ℕ}
 use mathlib.Core.List.{List}
 use lib.ListN.{get_or}
 use Rattle.word.specs.declared.Word.{Word}
@@ -14,7 +14,4 @@ abbrev pub word_in : List PackedWord → ℕ → Word
 word_in words q = unpacked (get_or words q fresh_held)
 
 abbrev pub invariant-loop-q : goal.invariant-loop-q
-invariant-loop-q l = (l.q ≤ l.processes) × Filled l.q (word_in l.words) (slots_in l.size l.slots) l.table
-
-abbrev pub decreases-loop-q : goal.decreases-loop-q
-decreases-loop-q l = l.processes - l.q
+invariant-loop-q l = Filled l.q (word_in l.words) (slots_in l.size l.slots) l.table
