@@ -11,6 +11,7 @@ use Rattle.steps.proofs.PackedLaws.{packed_again}
 use Rattle.runs.specs.State.{Bench, Queue, State, fresh, queue_at}
 use Rattle.bench.specs.Inner.Layout.{fresh_held, bench_in, Becomes}
 use Rattle.bench.specs.declared.Bench.{Bench as HeldBench}
+use Rattle.bench.specs.declared.Queue.{Queue as HeldQueue}
 use Rattle.bench.specs.Held.{EveryStateHeld}
 use Rattle.bench.proofs.LayoutLaws.{slots_get, slot, queue_is}
 
@@ -18,12 +19,12 @@ packed_unpacked : (w : PackedWord) → packed_word (unpacked w) ≡ w
 packed_unpacked w = λ i. record { bottom = w.bottom; age = record { word = packed_again w.age.word i } }
 
 module _ (C n : ℕ) (log : List ℕ) (s : State) (b : HeldBench) (flat log' : List ℕ) (h : Becomes C n log s b flat log') where
-  word : (q : ℕ) → Dec (q < 8) → get_or b.words q fresh_held ≡ packed_word (queue_at s.bench q).word
+  word : (q : ℕ) → Dec (q < 8) → (get_or b.queues q fresh_held).word ≡ packed_word (queue_at s.bench q).word
   word q (yes l) =
-      sym (packed_unpacked (get_or b.words q fresh_held))
+      sym (packed_unpacked (get_or b.queues q fresh_held).word)
       ∙ ap (λ (m : Queue). packed_word m.word) (sym (queue_is b q l)) ∙ ap (λ (x : Bench). packed_word (queue_at x q).word) h.bench
   word q (no l) =
-      get_or-eq_default b.words fresh_held {n = q} (omega (arith, h.whole.words))
+      ap (λ (m : HeldQueue). m.word) (get_or-eq_default b.queues fresh_held {n = q} (omega (arith, h.whole.queues)))
       ∙ ap (λ (m : Queue). packed_word m.word) (sym (get_or-eq_default (bench_in b).queues fresh {n = q} (omega arith)))
       ∙ ap (λ (x : Bench). packed_word (queue_at x q).word) h.bench
 

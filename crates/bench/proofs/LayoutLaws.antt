@@ -18,7 +18,7 @@ use Rattle.word.specs.declared.Stage.{Stage}
 use Rattle.steps.specs.declared.PackedWord.{PackedWord}
 use Rattle.steps.proofs.StepLaws.{stored_length}
 use Rattle.records.specs.Inner.Records.{process_in, slots_place}
-use Rattle.bench.specs.Inner.Layout.{fresh_held, idle_held, queue_in, record_in, bench_in, slots_of, slots_in, StepsIn, put_entries}
+use Rattle.bench.specs.Inner.Layout.{fresh_held, idle_held, queue_of_held, queue_in, record_in, bench_in, slots_of, slots_in, StepsIn, put_entries}
 use Rattle.runs.specs.State.{Process, Queue, fresh, nobody, queue_at, process_at}
 use Rattle.runs.specs.Inner.Counted.{Counted}
 use Rattle.bench.specs.declared.Bench.{Bench as HeldBench}
@@ -146,7 +146,7 @@ pub process_is : (b : HeldBench) (p : ℕ) → p < 8 → process_at (bench_in b)
 process_is b p h = list_of_get_d 8 (record_in b) nobody p h
 
 module _ (b : HeldBench) (m : ℕ) (h : Counted m (bench_in b)) where
-  pub held_resets : (q : ℕ) → q < 8 → get_or b.resets q 0 ≤ b.steps
+  pub held_resets : (q : ℕ) → q < 8 → (get_or b.queues q fresh_held).resets ≤ b.steps
   held_resets q l = omega (arith, h.resets q, ap (λ (x : Queue). x.resets) (queue_is b q l))
 
   pub held_b2 : (p : ℕ) → p < 8 → (get_or b.processes p idle_held).b2 ≤ b.steps
@@ -160,9 +160,6 @@ pub record Put {A : Type 0} (d : A) (l l' : List A) (i : ℕ) (x : A) : Type 0 w
 module _ {A : Type 0} (d : A) (l : List A) (i : ℕ) (x : A) where
   pub put_set : i < length l → Put d l (set l i x) i x
   put_set h = record { here = get_or-set_same l i x d h; other = λ j ne. get_or-set_other l i j x d ne }
-
-  pub put_none : get_or l i d ≡ x → Put d l l i x
-  put_none e = record { here = e; other = λ j ne. refl }
 
 list_of_put : {A : Type 0} (f g : ℕ → A) (d : A) (n i : ℕ) (x : A) → i < n → g i ≡ x → ((j : ℕ) → (j ≡ i → ⊥) → g j ≡ f j)
     → list_of n g ≡ set (list_of n f) i x
@@ -178,8 +175,7 @@ list_of_put {A} f g d n i x lt e o =
 
 -- what a step of process p on queue q changes in the program's arrays
 pub record Changes (b b' : HeldBench) (p q : ℕ) (w : PackedWord) (n : ℕ) (z : HeldProcess) : Type 0 where
-  pub words : Put fresh_held b.words b'.words q w
-  pub resets : Put 0 b.resets b'.resets q n
+  pub queues : Put fresh_held b.queues b'.queues q (record { word = w; resets = n })
   pub processes : Put idle_held b.processes b'.processes p z
 
 -- and in the bench that they stand for
@@ -187,8 +183,8 @@ module _ (b b' : HeldBench) (p q : ℕ) (w : PackedWord) (n : ℕ) (z : HeldProc
   pub queues_changed : q < 8 → (bench_in b').queues ≡ set (bench_in b).queues q (record { word = unpacked w; resets = n })
   queues_changed lt =
       list_of_put (queue_in b) (queue_in b') fresh 8 q (record { word = unpacked w; resets = n }) lt
-      (λ i. record { word = unpacked (h.words.here i); resets = h.resets.here i })
-      (λ j ne i. record { word = unpacked (h.words.other j ne i); resets = h.resets.other j ne i })
+      (ap queue_of_held h.queues.here)
+      (λ j ne. ap queue_of_held (h.queues.other j ne))
 
   pub processes_changed : p < 8 → (bench_in b').processes ≡ set (bench_in b).processes p (process_in z)
   processes_changed lt =

@@ -27,7 +27,7 @@ use Rattle.records.specs.Inner.Records.{process_in}
 use Rattle.bench.specs.Inner.Layout.{fresh_held, idle_held, queue_in, record_in, bench_in, Whole, slots_in, state_in, StepsIn, put_entries, Becomes}
 use Rattle.bench.specs.Inner.Layout.{Tells}
 use Rattle.bench.specs.Inner.Walk.{walking, walked_one}
-use Rattle.bench.proofs.LayoutLaws.{queue_is, process_is, Put, put_set, put_none, Changes, queues_changed, processes_changed}
+use Rattle.bench.proofs.LayoutLaws.{queue_is, process_is, Put, put_set, Changes, queues_changed, processes_changed}
 use Rattle.bench.proofs.WalkLaws.{waited, with_steps_lem}
 use Rattle.bench.specs.declared.Bench.{Bench as HeldBench}
 use Rattle.records.specs.declared.Process.{Process as HeldProcess}
@@ -74,8 +74,7 @@ module _ (calls : List Call) (n : ℕ) (w : Process) where
 -- a bench with its steps counted further
 abbrev pub with_steps : HeldBench → ℕ → HeldBench
 with_steps b n = record {
-  words = b.words;
-  resets = b.resets;
+  queues = b.queues;
   processes = b.processes;
   entries = b.entries;
   steps = n;
@@ -83,7 +82,7 @@ with_steps b n = record {
 }
 
 whole_steps : (b : HeldBench) (n : ℕ) → Whole b → Whole (with_steps b n)
-whole_steps b n h = record { words = h.words; resets = h.resets; processes = h.processes }
+whole_steps b n h = record { queues = h.queues; processes = h.processes }
 
 pub becomes_waited : (C n : ℕ) (log₀ : List ℕ) (s : State) (closing : Bool) (k m : ℕ) → m ≡ cond closing 0 k → (b : HeldBench) (flat log : List ℕ)
     → Becomes C n log₀ s b flat log → Becomes C n log₀ (waited closing k s) (with_steps b (b.steps + m)) flat log
@@ -154,9 +153,9 @@ module _ (f : Sizes) (h : Fit f) (closing : Bool) (calls : List Call) (all : All
       stage = placed.stage;
     }
 
-    module _ (o : PackedStep) (flat' : List ℕ) (x : StepsIn f.width f.size (get_or b.words q fresh_held) flat q r.stage o flat') where
+    module _ (o : PackedStep) (flat' : List ℕ) (x : StepsIn f.width f.size (get_or b.queues q fresh_held).word flat q r.stage o flat') where
       abbrev resets : ℕ
-      resets = get_or b.resets q 0
+      resets = (get_or b.queues q fresh_held).resets
 
       queue : queue_at (bench_in b) q ≡ queue_in b q
       queue = queue_is b q on_queue
@@ -167,11 +166,11 @@ module _ (f : Sizes) (h : Fit f) (closing : Bool) (calls : List Call) (all : All
           ∙ sixteen_in W C C (queue_at (bench_in b) q).word (loaded (get_or (slots_in C flat) q []) (loaded_slot r.stage)) r.stage in_range
 
       -- the step's changes, counts and entry are those of the definition
-      acts : (over : Ended) → over ≡ ended p b.steps r (record_in b q) (unpacked (get_or b.words q fresh_held)).top o.next
-          → (z : HeldProcess) → process_in z ≡ process_after b.steps (get_or b.resets q 0) r o.next
+      acts : (over : Ended) → over ≡ ended p b.steps r (record_in b q) (unpacked (get_or b.queues q fresh_held).word).top o.next
+          → (z : HeldProcess) → process_in z ≡ process_after b.steps (get_or b.queues q fresh_held).resets r o.next
           → (b' : HeldBench) (log' : List ℕ) → Whole b'
-          → Changes b b' p q o.word (cond o.reset (get_or b.resets q 0 + 1) (get_or b.resets q 0)) z
-          → b'.steps ≡ b.steps + 1 → b'.gone ≡ b.gone + gone_round r (get_or b.resets q 0) o.next
+          → Changes b b' p q o.word (cond o.reset ((get_or b.queues q fresh_held).resets + 1) (get_or b.queues q fresh_held).resets) z
+          → b'.steps ≡ b.steps + 1 → b'.gone ≡ b.gone + gone_round r (get_or b.queues q fresh_held).resets o.next
           → b'.entries ≡ b.entries + length (entries_in over)
           → log' ≡ put_entries b.entries (entries_in over) log
           → Becomes f.size b.entries log (walked_one closing f.width f.size calls p (state_in f.size b flat)) b' flat' log'
@@ -188,7 +187,7 @@ module _ (f : Sizes) (h : Fit f) (closing : Bool) (calls : List Call) (all : All
           over_is : over ≡ ended p b.steps r (process_at (bench_in b) q) (queue_at (bench_in b) q).word.top o.next
           over_is =
               ends
-              ∙ ap (λ (y : Process). ended p b.steps r y (unpacked (get_or b.words q fresh_held)).top o.next) (sym (process_is b q on_queue))
+              ∙ ap (λ (y : Process). ended p b.steps r y (unpacked (get_or b.queues q fresh_held).word).top o.next) (sym (process_is b q on_queue))
               ∙ ap (λ (y : Queue). ended p b.steps r (process_at (bench_in b) q) y.word.top o.next) (sym queue)
 
           bench_after_lem : bench_in b' ≡ bench_after (bench_in b) p q r (unpacked_step o)
@@ -209,54 +208,51 @@ module _ (f : Sizes) (h : Fit f) (closing : Bool) (calls : List Call) (all : All
           ap (λ (y : Stepped). y.reset) made ∙ row_resets W C _ _ r.stage (ap (λ (y : Next). is_idle (stage_after y)) (sym row) ∙ i)
 
       -- the bench after it, with what it has besides the changed word
-      abbrev after : List ℕ → HeldProcess → ℕ → ℕ → ℕ → HeldBench
+      abbrev after : ℕ → HeldProcess → ℕ → ℕ → ℕ → HeldBench
       after R z entries steps gone = record {
-        words = set b.words q o.word;
-        resets = R;
+        queues = set b.queues q (record { word = o.word; resets = R });
         processes = set b.processes p z;
         entries = entries;
         steps = steps;
         gone = gone;
       }
 
-      module _ (whole : Whole b) (z : HeldProcess) (t : process_in z ≡ process_after b.steps (get_or b.resets q 0) r o.next) where
-        -- with the resets R of the queues
-        whole' : (R : List ℕ) (m n k : ℕ) → length R ≡ 8 → Whole (after R z m n k)
-        whole' R m n k l = record {
-          words = length-set b.words q o.word ∙ whole.words;
-          resets = l;
-          processes = length-set b.processes p z ∙ whole.processes;
-        }
+      module _ (whole : Whole b) (z : HeldProcess) (t : process_in z ≡ process_after b.steps (get_or b.queues q fresh_held).resets r o.next) where
+        -- with so many resets of the queue
+        module _ (R entries steps gone : ℕ) where
+          whole' : Whole (after R z entries steps gone)
+          whole' = record {
+            queues = length-set b.queues q _ ∙ whole.queues;
+            processes = length-set b.processes p z ∙ whole.processes;
+          }
 
-        changes : (R : List ℕ) (m n k : ℕ) → Put 0 b.resets R q (cond o.reset (get_or b.resets q 0 + 1) (get_or b.resets q 0))
-            → Changes b (after R z m n k) p q o.word (cond o.reset (get_or b.resets q 0 + 1) (get_or b.resets q 0)) z
-        changes R m n k pR = record {
-          words = put_set fresh_held b.words q o.word (omega (arith, whole.words, on_queue));
-          resets = pR;
-          processes = put_set idle_held b.processes p z (omega (arith, whole.processes, below));
-        }
+          changes : R ≡ cond o.reset (resets + 1) resets
+              → Changes b (after R z entries steps gone) p q o.word (cond o.reset (resets + 1) resets) z
+          changes e = record {
+            queues =
+                subst (λ (n : ℕ). Put fresh_held b.queues (set b.queues q (record { word = o.word; resets = R })) q (record { word = o.word; resets = n })) e
+                (put_set fresh_held b.queues q (record { word = o.word; resets = R }) (omega (arith, whole.queues, on_queue)));
+            processes = put_set idle_held b.processes p z (omega (arith, whole.processes, below));
+          }
 
         -- the call goes on
         pub way_on : is_idle z.stage ≡ false
             → Becomes f.size b.entries log (walked_one closing f.width f.size calls p (state_in f.size b flat))
-            (after b.resets z b.entries (b.steps + 1) b.gone) flat' log
+            (after (get_or b.queues q fresh_held).resets z b.entries (b.steps + 1) b.gone) flat' log
         way_on i =
             let j : is_idle (stage_after o.next) ≡ false = ap (λ (y : Process). is_idle y.stage) (sym t) ∙ i in
-            let g = going p b.steps r (record_in b q) (unpacked (get_or b.words q fresh_held)).top resets o.next j in
-            let same =
-            put_none 0 b.resets q (cond o.reset (resets + 1) resets) (ap (λ (y : Bool). cond y (resets + 1) resets) (sym (no_reset j))) in
-            acts Nothing (sym g.0) z t _ log (whole' b.resets b.entries (b.steps + 1) b.gone whole.resets)
-            (changes b.resets b.entries (b.steps + 1) b.gone same) refl (omega (arith, g.1)) (omega arith) refl
+            let g = going p b.steps r (record_in b q) (unpacked (get_or b.queues q fresh_held).word).top resets o.next j in
+            let same : resets ≡ cond o.reset (resets + 1) resets = ap (λ (y : Bool). cond y (resets + 1) resets) (sym (no_reset j)) in
+            acts Nothing (sym g.0) z t _ log (whole' resets b.entries (b.steps + 1) b.gone)
+            (changes resets b.entries (b.steps + 1) b.gone same) refl (omega (arith, g.1)) (omega arith) refl
 
         -- it ends
         pub way_ends : (m : Told) (log' : List ℕ)
-            → Tells p b.steps b.entries r (record_in b q) (get_or b.words q fresh_held) (get_or b.resets q 0) o log m log'
+            → Tells p b.steps b.entries r (record_in b q) (get_or b.queues q fresh_held).word (get_or b.queues q fresh_held).resets o log m log'
             → Becomes f.size b.entries log (walked_one closing f.width f.size calls p (state_in f.size b flat))
-            (after (set b.resets q m.resets) z (b.entries + m.more) (b.steps + 1) (b.gone + m.gone)) flat' log'
+            (after m.resets z (b.entries + m.more) (b.steps + 1) (b.gone + m.gone)) flat' log'
         way_ends m log' g =
-            let R = set b.resets q m.resets in
-            let set-resets = put_set 0 b.resets q m.resets (omega (arith, whole.resets, on_queue)) in
             acts g.over g.ends z t _ log'
-            (whole' R (b.entries + m.more) (b.steps + 1) (b.gone + m.gone) (length-set b.resets q m.resets ∙ whole.resets))
-            (changes R (b.entries + m.more) (b.steps + 1) (b.gone + m.gone) (subst (Put 0 b.resets R q) g.again set-resets))
+            (whole' m.resets (b.entries + m.more) (b.steps + 1) (b.gone + m.gone))
+            (changes m.resets (b.entries + m.more) (b.steps + 1) (b.gone + m.gone) g.again)
             refl (ap (λ (y : ℕ). b.gone + y) g.gone) (ap (λ (y : ℕ). b.entries + y) g.more) g.bytes

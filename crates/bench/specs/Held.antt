@@ -6,7 +6,7 @@ use Rattle.bench.specs.declared.Bench.{Bench as HeldBench}
 use Rattle.bench.specs.Inner.Layout.{fresh_held, Becomes}
 
 pub record Holds (C : ℕ) (s : State) (b : HeldBench) (flat : List ℕ) : Type 0 where
-  pub words : (q : ℕ) → get_or b.words q fresh_held ≡ packed_word (queue_at s.bench q).word
+  pub words : (q : ℕ) → (get_or b.queues q fresh_held).word ≡ packed_word (queue_at s.bench q).word
   pub slots : (q i : ℕ) → q < queue_count → i < C → get_or flat (C * q + i) 0 ≡ get_or (get_or s.slots q []) i 0
 
 -- of every state that the program's loops promise to have come to, the schedule's and the closing's

@@ -22,11 +22,17 @@ use steps::PackedWord;
 // The rounds of the closing at most: eight calls are half-done.
 const CLOSING_ROUNDS: u8 = 8;
 
+// A queue: its word, and how often it was reset.
+#[derive(Clone, Copy)]
+pub struct Queue {
+    pub word: PackedWord,
+    pub resets: u16,
+}
+
 // The state of a run, but for the slots, which lie in an array of their own, and the log, which lies in the buffer.
 #[derive(Clone, Copy)]
 pub struct Bench {
-    pub words: [PackedWord; 8],
-    pub resets: [u16; 8],
+    pub queues: [Queue; 8],
     pub processes: [Process; 8],
     pub entries: u16,
     pub steps: u16,
@@ -47,8 +53,7 @@ fn finish(
 {
     call_log::put_head(buffer, shape.processes, shape.size, state.entries);
     *report = [0, state.entries, state.steps, state.gone];
-    let words = state.words;
-    table::fill(table, shape.processes, shape.size, words, slots);
+    table::fill(table, shape.processes, shape.size, state.queues, slots);
     call_log::length_of(state.entries)
 }
 

@@ -9,7 +9,7 @@ ghost use Rattle.bench.specs.Inner.Layout.{process_at_in, state_in, Becomes, ToW
 ghost use Rattle.bench.specs.Inner.Walk.{walked};
 
 use crate::turn::{Turn, step_slots};
-use crate::{Bench, CLOSING_ROUNDS};
+use crate::{Bench, CLOSING_ROUNDS, Queue};
 use records::{Process, if_so};
 use runfile::Shape;
 use word::Stage;
@@ -46,12 +46,12 @@ pub(crate) fn walk(
         run.steps = n + 1;
         let q = of.queue_of(p);
         let on = q as usize;
-        let word = run.words[on];
-        let resets = run.resets[on];
-        let stepped = step_slots(shape.width, shape.size, word, slots, q, of);
-        run.words[on] = stepped.word;
-        let then = of.after(n, resets, stepped);
+        let queue = run.queues[on];
+        let stepped = step_slots(shape.width, shape.size, queue.word, slots, q, of);
+        let word = stepped.word;
+        let then = of.after(n, queue.resets, stepped);
         if !then.is_idle() {
+            run.queues[on] = Queue { word, ..queue };
             run.processes[at] = then;
             continue;
         }
@@ -61,12 +61,14 @@ pub(crate) fn walk(
             n,
             of,
             owner,
-            word,
-            resets,
+            queue,
         };
         let told = turn.tell(log, run.entries, stepped);
         run.processes[at] = then;
-        run.resets[on] = told.resets;
+        run.queues[on] = Queue {
+            word,
+            resets: told.resets,
+        };
         run.entries += told.more;
         run.gone += told.gone;
     }

@@ -49,9 +49,9 @@ impl Turn {
 
     // A top pop with a node: 2 × T4, or 2 × B2 of the owner that was popping that node.
     fn take_moment(self) -> u16
-        ensures { result ≡ take_moment self.n (process_in self.owner) (top_of self.word.age.word) }
+        ensures { result ≡ take_moment self.n (process_in self.owner) (top_of self.queue.word.age.word) }
     {
-        if self.owner.stage.pops_slot(self.word.age.top()) {
+        if self.owner.stage.pops_slot(self.queue.word.age.top()) {
             2 * self.owner.b2
         } else {
             2 * self.n
@@ -60,7 +60,7 @@ impl Turn {
 
     // The entry of a pop with a node.
     fn node_entry(self, node: u16) -> Entry
-        ensures { result ≡ node_entry self.p self.n (process_in self.of) (process_in self.owner) (top_of self.word.age.word) node }
+        ensures { result ≡ node_entry self.p self.n (process_in self.of) (process_in self.owner) (top_of self.queue.word.age.word) node }
     {
         if is_take(self.of.call) {
             self.entry(What::TopNode, node, self.take_moment())
@@ -82,7 +82,7 @@ impl Turn {
 
     // What the turn ends.
     pub(crate) fn ended(self, next: Next) -> Option<Entry>
-        ensures { ended_in result ≡ ended_of self.p self.n (process_in self.of) (process_in self.owner) (top_of self.word.age.word) next }
+        ensures { ended_in result ≡ ended_of self.p self.n (process_in self.of) (process_in self.owner) (top_of self.queue.word.age.word) next }
     {
         let node = pushed_node(self.of.call);
         match next {

@@ -5,7 +5,7 @@ ghost use Rattle.records.specs.Inner.Records.{process_in};
 ghost use Rattle.bench.specs.Inner.Layout.{bench_in, Whole};
 ghost use Rattle.runs.specs.State.{waiting as waiting_of, start_bench};
 
-use crate::Bench;
+use crate::{Bench, Queue};
 use records::Process;
 use runfile::Call;
 use steps::{PackedAge, PackedWord};
@@ -49,9 +49,9 @@ pub(crate) fn start(file: &[u8], processes: u8) -> Bench
         next = stop;
     }
     let age = PackedAge { word: 0 };
+    let word = PackedWord { bottom: 0, age };
     Bench {
-        words: [PackedWord { bottom: 0, age }; 8],
-        resets: [0; 8],
+        queues: [Queue { word, resets: 0 }; 8],
         processes: all,
         entries: 0,
         steps: 0,

@@ -5,8 +5,8 @@ ghost use Rattle.base.specs.Lists.{list_of};
 ghost use Rattle.bench.specs.Inner.Layout.{all_slots, slots_in, words_table};
 ghost use Rattle.runs.specs.Run.{table_row, table_size};
 
+use crate::Queue;
 use records::{TABLE_ROW, TABLE_SIZE, slots_place};
-use steps::PackedWord;
 use word::Word;
 
 // Puts a queue's row into the table: bottom, top, tag and its slots.
@@ -25,17 +25,17 @@ pub(crate) fn fill(
     table: &mut [u16; TABLE_SIZE],
     processes: u8,
     size: u8,
-    words: [PackedWord; 8],
+    queues: [Queue; 8],
     slots: &[u16],
 )
     requires { (length slots.now ≡ all_slots) × (size ≤ 64) × (processes ≤ 8) }
-    ensures { table.new ≡ list_of table_size (words_table processes words (slots_in size slots.now)) }
+    ensures { table.new ≡ list_of table_size (words_table processes queues (slots_in size slots.now)) }
 {
     *table = [0; TABLE_SIZE];
     for q in 0..processes {
         let on = q as usize;
         let from = slots_place(size, q);
         let part = &slots[from..from + size as usize];
-        put_row(table, TABLE_ROW * on, words[on].into(), part);
+        put_row(table, TABLE_ROW * on, queues[on].word.into(), part);
     }
 }

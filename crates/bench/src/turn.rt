@@ -4,6 +4,7 @@ ghost use Rattle.records.specs.Inner.Records.{process_in};
 ghost use Rattle.bench.specs.Inner.Layout.{all_slots, ended_in, put_entries, StepsIn, Tells};
 ghost use Rattle.runs.specs.Turn.{entries_in};
 
+use crate::Queue;
 use call_log::Entry;
 use records::{Process, if_so, slots_place};
 use steps::{PackedStep, PackedWord};
@@ -40,16 +41,15 @@ fn keep(log: &mut [u8], n: u16, over: Option<Entry>) -> u16
     }
 }
 
-// What step n of process p finds: the records of the process and of its queue's owner, and the queue's word and resets.
+// What step n of process p finds: the records of the process and of its queue's owner, and the queue.
 #[derive(Clone, Copy)]
 pub(crate) struct Turn {
     pub p: u8,
     pub n: u16,
     pub of: Process,
     pub owner: Process,
-    pub word: PackedWord,
-    pub resets: u16,
-    ghost few: { (n ≤ 8191) × (of.b2 ≤ 8191) × (owner.b2 ≤ 8191) × (resets ≤ 8191) },
+    pub queue: Queue,
+    ghost few: { (n ≤ 8191) × (of.b2 ≤ 8191) × (owner.b2 ≤ 8191) × (queue.resets ≤ 8191) },
 }
 
 // What the end of a call adds to the counts, and the resets of its queue after it.
@@ -63,12 +63,12 @@ pub(crate) struct Told {
 impl Turn {
     // Logs what the step ended, after so many entries.
     pub(crate) fn tell(self, log: &mut [u8], entries: u16, stepped: PackedStep) -> Told
-        ensures { Tells self.p self.n entries (process_in self.of) (process_in self.owner) self.word self.resets stepped log.old result log.new }
+        ensures { Tells self.p self.n entries (process_in self.of) (process_in self.owner) self.queue.word self.queue.resets stepped log.old result log.new }
     {
         Told {
             more: keep(log, entries, self.ended(stepped.next)),
-            gone: self.of.gone_round(self.resets, stepped.next),
-            resets: if_so(stepped.reset, self.resets + 1, self.resets),
+            gone: self.of.gone_round(self.queue.resets, stepped.next),
+            resets: if_so(stepped.reset, self.queue.resets + 1, self.queue.resets),
         }
     }
 }

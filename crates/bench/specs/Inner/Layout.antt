@@ -23,20 +23,24 @@ use Rattle.runs.specs.Inner.Left.{total}
 use Rattle.runs.specs.Run.{table_row_length, in_table}
 use Rattle.runs.specs.Turn.{entries_in}
 use Rattle.bench.specs.declared.Bench.{Bench as HeldBench}
+use Rattle.bench.specs.declared.Queue.{Queue as HeldQueue}
 use Rattle.records.specs.Inner.Records.{process_in, slots_place}
 use Rattle.records.specs.declared.Process.{Process as HeldProcess}
 use Rattle.bench.specs.declared.turn.Told.{Told}
 
 -- what the program's arrays have past their end
-abbrev pub fresh_held : PackedWord
-fresh_held = record { bottom = 0; age = record { word = 0 } }
+abbrev pub fresh_held : HeldQueue
+fresh_held = record { word = record { bottom = 0; age = record { word = 0 } }; resets = 0 }
 
 abbrev pub idle_held : HeldProcess
 idle_held = record { stage = Idle; call = Push 0; next = 0; stop = 0; start = 0; b2 = 0; resets_at_t1 = 0 }
 
 -- queue q and process p of the program's arrays
+abbrev pub queue_of_held : HeldQueue → Queue
+queue_of_held m = record { word = unpacked m.word; resets = m.resets }
+
 abbrev pub queue_in : HeldBench → ℕ → Queue
-queue_in b q = record { word = unpacked (get_or b.words q fresh_held); resets = get_or b.resets q 0 }
+queue_in b q = queue_of_held (get_or b.queues q fresh_held)
 
 abbrev pub process_at_in : List HeldProcess → ℕ → Process
 process_at_in l p = process_in (get_or l p idle_held)
@@ -53,8 +57,7 @@ bench_in b = record { queues = list_of queue_count (queue_in b); processes = lis
 
 -- each of its arrays has eight elements
 pub record Whole (b : HeldBench) : Type 0 where
-  pub words : length b.words ≡ queue_count
-  pub resets : length b.resets ≡ queue_count
+  pub queues : length b.queues ≡ queue_count
   pub processes : length b.processes ≡ queue_count
 
 -- the row of all slots has room for eight queues of the greatest C
@@ -69,8 +72,8 @@ abbrev pub slots_in : ℕ → List ℕ → List (List ℕ)
 slots_in C flat = list_of queue_count (slots_of C flat)
 
 -- number k of the final table, from the words of the program's queues
-abbrev pub words_table : ℕ → List PackedWord → List (List ℕ) → ℕ → ℕ
-words_table P words slots k = in_table P (unpacked (get_or words (k / table_row_length) fresh_held)) slots (k / table_row_length) (k % table_row_length)
+abbrev pub words_table : ℕ → List HeldQueue → List (List ℕ) → ℕ → ℕ
+words_table P queues slots k = in_table P (unpacked (get_or queues (k / table_row_length) fresh_held).word) slots (k / table_row_length) (k % table_row_length)
 
 -- the state that a bench and its slots stand for, before anything is logged
 abbrev pub state_in : ℕ → HeldBench → List ℕ → State

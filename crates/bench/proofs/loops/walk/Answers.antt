@@ -79,12 +79,11 @@ module _ (file : List ℕ) (closing : Bool) (i : ℕ) {a : Shape} {schedule : Li
 
     -- its step, and the record that it leaves
     module _ (busy : is_idle r.stage ≡ false) {q : ℕ} (on_q : q ≡ queue_of process r.call) {o : PackedStep} {slots' : List ℕ}
-        (stepped : StepsIn a.width a.size (get_or run.words q fresh_held) slots q r.stage o slots') {z : HeldProcess}
-        (left : process_in z ≡ process_after run.steps (get_or run.resets q 0) r o.next) where
-      abbrev after : List ℕ → ℕ → ℕ → Bench
+        (stepped : StepsIn a.width a.size (get_or run.queues q fresh_held).word slots q r.stage o slots') {z : HeldProcess}
+        (left : process_in z ≡ process_after run.steps (get_or run.queues q fresh_held).resets r o.next) where
+      abbrev after : ℕ → ℕ → ℕ → Bench
       after resets entries gone = record {
-        words = set run.words q o.word;
-        resets = resets;
+        queues = set run.queues q (record { word = o.word; resets = resets });
         processes = set run.processes process z;
         entries = entries;
         steps = run.steps + 1;
@@ -93,15 +92,15 @@ module _ (file : List ℕ) (closing : Bool) (i : ℕ) {a : Shape} {schedule : Li
 
       stays : is_idle z.stage ≡ false
           → Walked (sizes_in a) a.calls state.entries closing (calls_of file a) schedule log₀ (state_in a.size state slots₀) (i + 1)
-          (after run.resets run.entries run.gone) slots' log
+          (after (get_or run.queues q fresh_held).resets run.entries run.gone) slots' log
       stays half = more
           (way_on (sizes_in a) given.fit closing (calls_of file a) calls_are run slots log come.0.sound process below_P r ready_is busy q on_q o
           slots' stepped come.0.becomes.whole z left half)
 
       ends : {m : Told} {log' : List ℕ}
-          → Tells process run.steps run.entries r (record_in run q) (get_or run.words q fresh_held) (get_or run.resets q 0) o log m log'
+          → Tells process run.steps run.entries r (record_in run q) (get_or run.queues q fresh_held).word (get_or run.queues q fresh_held).resets o log m log'
           → Walked (sizes_in a) a.calls state.entries closing (calls_of file a) schedule log₀ (state_in a.size state slots₀) (i + 1)
-          (after (set run.resets q m.resets) (run.entries + m.more) (run.gone + m.gone)) slots' log'
+          (after m.resets (run.entries + m.more) (run.gone + m.gone)) slots' log'
       ends {m = m} {log' = log'} told = more
           (way_ends (sizes_in a) given.fit closing (calls_of file a) calls_are run slots log come.0.sound process below_P r ready_is busy q on_q o
           slots' stepped come.0.becomes.whole z left m log' told)
@@ -157,13 +156,8 @@ bounds-run-on-in-loop-i-2 c =
     q_small c.args.file.now _ _ c.requires c.loop-i.invariant.2 c.loop-i-test.true c.ready-of.ensures
     (sym c.is_idle.ensures ∙ c.if-is_idle.false) c.queue_of-q.ensures
 
-pub bounds-run-on-in-loop-i-3 : goal.bounds-run-on-in-loop-i-3
-bounds-run-on-in-loop-i-3 c =
-    q_small c.args.file.now _ _ c.requires c.loop-i.invariant.2 c.loop-i-test.true c.ready-of.ensures
-    (sym c.is_idle.ensures ∙ c.if-is_idle.false) c.queue_of-q.ensures
-
-pub bounds-run-on-in-loop-i-4 : goal.bounds-run-on-in-loop-i-4
-bounds-run-on-in-loop-i-4 c =
+pub bounds-run-on-then-not-is_idle : goal.bounds-run-on-then-not-is_idle
+bounds-run-on-then-not-is_idle c =
     q_small c.args.file.now _ _ c.requires c.loop-i.invariant.2 c.loop-i-test.true c.ready-of.ensures
     (sym c.is_idle.ensures ∙ c.if-is_idle.false) c.queue_of-q.ensures
 
@@ -225,7 +219,7 @@ overflow_add-run-in-loop-i-3 c =
       steps_few c.args.file.now _ _ c.requires c.loop-i.invariant.2 c.loop-i-test.true,
       c.loop-i.invariant.2.0.counted.gone,
       c.tell-told.ensures.gone,
-      gone_most (process_in c.ready-of.result) (get_or l.resets c.queue_of-q.result 0) c.step_slots-stepped.result.next,
+      gone_most (process_in c.ready-of.result) (get_or l.queues c.queue_of-q.result fresh_held).resets c.step_slots-stepped.result.next,
     )
 
 pub loop-i-preserved : goal.loop-i-preserved

@@ -24,5 +24,5 @@ returns c =
     let each = list_of_same 8 (process_at_in l.all) (scripted shares) (λ k lt. l.invariant.each k (omega (arith, c.loop-p-test.false))) in (
       λ i. record { queues = replicate 8 fresh; processes = each i; steps = 0; gone = 0 },
       refl,
-      record { words = refl; resets = refl; processes = l.invariant.whole },
+      record { queues = refl; processes = l.invariant.whole },
     )

@@ -12,7 +12,7 @@ use Rattle.bench.proofs.table.fill.Goals as goal
 
 pub loop-q-init : goal.loop-q-init
 loop-q-init c =
-    let a = c.args in none_filled (word_in a.words) (slots_in a.size a.slots.now)
+    let a = c.args in none_filled (word_in a.queues) (slots_in a.size a.slots.now)
 
 pub loop-q-preserved : goal.loop-q-preserved
 loop-q-preserved c =
@@ -25,7 +25,7 @@ loop-q-preserved c =
     let part = take (from + a.size - from) (drop from a.slots.now) in
     let small = part_small a.size a.slots.now l.q from is c.requires.1 in
     let row = ap (λ (x : Word). table_row x part) w.ensures ∙ ap (table_row _) (part_slots a.size a.slots.now l.q from is below) in
-    let filled = row_filled (word_in a.words) (slots_in a.size a.slots.now) l.q (table_row w.result part) l.table row l.invariant in
+    let filled = row_filled (word_in a.queues) (slots_in a.size a.slots.now) l.q (table_row w.result part) l.table row l.invariant in
     rw c.put_row.ensures (filled (omega (arith, below)) (omega arith))
 
 pub returns : goal.returns
@@ -33,4 +33,4 @@ returns c =
     let a = c.args in
     let l = c.loop-q in
     let e : l.q ≡ a.processes = omega (arith, l.auto.q-end, c.loop-q-test.false) in
-    all_filled (word_in a.words) (slots_in a.size a.slots.now) a.processes l.q l.table e l.invariant
+    all_filled (word_in a.queues) (slots_in a.size a.slots.now) a.processes l.q l.table e l.invariant
