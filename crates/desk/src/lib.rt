@@ -40,7 +40,7 @@ pub fn step_by_value(sizes: Sizes, word: Word, slots: &mut [u16], stage: Stage) 
     }
 }
 
-// The same with the word lent: it is altered where it stands.
+// The same with the word lent: it is altered where it stands. Both stay: docs/DECISIONS.md names this form, thin over the step by value.
 pub fn step(sizes: Sizes, word: &mut Word, slots: &mut [u16], stage: Stage) -> Result<Next, Stage>
     ensures { AtDesk sizes.width sizes.size word.old slots.old stage result word.new slots.new }
 {

@@ -24,12 +24,9 @@ fn leaves(word: PackedWord, next: Next) -> PackedStep
 fn reset(width: u8, word: PackedWord, t: u16, g: u16, next: Next) -> PackedStep
     ensures { unpacked_step result ≡ in_sixteen (resets width (unpacked word) g next) }
 {
-    let loaded = PackedAge::of(t, g);
+    let age = PackedAge::of(t, g).next_age(width);
     Step {
-        word: PackedWord {
-            age: loaded.next_age(width),
-            ..word
-        },
+        word: PackedWord { age, ..word },
         store: None,
         reset: true,
         next,
@@ -40,9 +37,7 @@ fn reset(width: u8, word: PackedWord, t: u16, g: u16, next: Next) -> PackedStep
 fn same_age(word: PackedWord, t: u16, g: u16) -> bool
     ensures { result ≡ same_age (unpacked word) t g }
 {
-    let age = word.age;
-    let loaded = PackedAge::of(t, g);
-    age.word == loaded.word
+    word.age == PackedAge::of(t, g)
 }
 
 // Load bottom as b; b = C: return FULL.
@@ -81,9 +76,8 @@ fn p3(word: PackedWord, b: u16) -> PackedStep
 fn t1(word: PackedWord) -> PackedStep
     ensures { unpacked_step result ≡ in_sixteen (row_of 0 0 (unpacked word) 0 Stage.T1) }
 {
-    let age = word.age;
-    let t = age.top();
-    let g = age.tag();
+    let t = word.age.top();
+    let g = word.age.tag();
     leaves(word, Next::Going(Stage::T2 { t, g }))
 }
 
@@ -111,8 +105,7 @@ fn t4(word: PackedWord, t: u16, g: u16, b: u16, x: u16) -> PackedStep
     ensures { unpacked_step result ≡ in_sixteen (row_of 0 0 (unpacked word) 0 (Stage.T4 t g b x)) }
 {
     if same_age(word, t, g) {
-        let top = t.wrapping_add(1);
-        let age = PackedAge::of(top, g);
+        let age = PackedAge::of(t.wrapping_add(1), g);
         leaves(PackedWord { age, ..word }, Next::Node(x))
     } else {
         leaves(word, Next::Lost)
@@ -150,9 +143,8 @@ fn b3(word: PackedWord, x: u16, b: u16) -> PackedStep
 fn b4(word: PackedWord, b: u16, x: u16) -> PackedStep
     ensures { unpacked_step result ≡ in_sixteen (row_of 0 0 (unpacked word) 0 (Stage.B4 b x)) }
 {
-    let age = word.age;
-    let t = age.top();
-    let g = age.tag();
+    let t = word.age.top();
+    let g = word.age.tag();
     if t < below(b) {
         leaves(word, Next::Node(x))
     } else {

@@ -8,6 +8,7 @@ ghost use Rattle.word.specs.Range.{sizes_in, age_in, word_in, take_in, pop_in, s
 use word::{Sizes, Stage, Word};
 
 // A tag is below 2^W.
+#[tactic(auto, using(word::proofs::TagLaws::tag_wide))]
 fn is_tag(width: u8, g: u16) -> bool
     ensures { result ≡ is_tag width g }
 {

@@ -5,12 +5,12 @@ use Rattle.word.proofs.TagLaws.{next_below}
 use Rattle.word.specs.Inner.InRange.{WordIn, StageIn, InRange}
 use Rattle.base.proofs.Cases.{either_way}
 use Rattle.word.specs.Inner.StepsLeft.{steps_left}
-use Rattle.steps.specs.Step.{leaves, resets, same_age, row_of, loaded_slot, stored, stage_after, result_of, in_sixteen, stepped_on, StepOn, Stepped}
+use Rattle.steps.specs.Step.{leaves, resets, same_age, row_of, loaded_slot, stored, stage_after, in_sixteen, Stepped}
 use Rattle.word.specs.declared.Word.{Word}
 use Rattle.word.specs.declared.Stage.{Stage}
 use Rattle.word.specs.declared.Stage.TheVariants.{Idle, P1, P2, P3, T1, T2, T3, T4, B1, B2, B3, B4, B5, B6, B7}
 use Rattle.steps.specs.declared.Store.{Store}
-use Rattle.steps.specs.declared.Next.TheVariants.{Going, Nil, Lost}
+use Rattle.steps.specs.declared.Next.TheVariants.{Nil, Lost}
 
 abbrev Lower : ℕ → Stepped → Type 0
 Lower n r = steps_left (stage_after r.next) ≤ n
@@ -170,9 +170,6 @@ stored_length slots (Some made) = length-set slots made.at made.node
 pub failed_T4 : (W C : ℕ) (w : Word) (v t g b x : ℕ) → same_age w t g ≡ false → row_of W C w v (T4 t g b x) ≡ leaves w Lost
 failed_T4 W C w v t g b x e = rw e
 
-pub failed_B6 : (W C : ℕ) (w : Word) (v b x t g : ℕ) → same_age w t g ≡ false → row_of W C w v (B6 b x t g) ≡ leaves w (Going (B7 b x t g))
-failed_B6 W C w v b x t g e = rw e
-
 -- the age that B4's load gave, as long as a bottom pop carries it
 abbrev pub Carries : ℕ → ℕ → Stage → Type 0
 Carries t' g' Idle = Unit {0}
@@ -230,9 +227,3 @@ B7_stores W C w w' v v' b x words slots k b' x' t g e =
     subst (Carries w.top w.tag) e
     (carries_all W C words slots w.top w.tag k (stage_after (row_of W C w v (B4 b x)).next) (B4_loads W C w v b x)) in
     ap (λ (j : ℕ). resets W w' j Nil) h.1
-
--- the promise from its two equations: the values of the answer are those of what it equals
-pub step_is : (W C : ℕ) (w : Word) (slots : List ℕ) (s : Stage) (answer : Stepped) (after : List ℕ) → answer ≡ in_sixteen (stepped_on W C w slots s)
-    → after ≡ stored slots (stepped_on W C w slots s).store → StepOn W C w slots s answer after
-step_is W C w slots s answer after e k =
-    record { stepped = e; staged = ap (λ (o : Stepped). stage_after o.next) e; resulted = ap (λ (o : Stepped). result_of o.next) e; kept = k }

@@ -50,11 +50,10 @@ impl From<PackedWord> for Word {
     ghost from_gives = { λ w r. r ≡ unpacked w };
 
     fn from(word: PackedWord) -> Word {
-        let age = word.age;
         Word {
             bottom: word.bottom,
-            top: age.top(),
-            tag: age.tag(),
+            top: word.age.top(),
+            tag: word.age.tag(),
         }
     }
 }

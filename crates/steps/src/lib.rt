@@ -26,7 +26,7 @@ pub struct Store {
 }
 
 // Top and tag in one word, as the box has them: tag × 65,536 + top.
-#[derive(Clone, Copy)]
+#[derive(Clone, Copy, PartialEq, Eq)]
 pub struct PackedAge {
     pub word: u32,
 }
@@ -47,6 +47,8 @@ pub struct Step<W> {
     pub next: Next,
 }
 
-// A step on the three numbers, and one on the word of the box.
+// A step on the three numbers.
 pub type Stepped = Step<Word>;
+
+// A step on the word of the box.
 pub type PackedStep = Step<PackedWord>;

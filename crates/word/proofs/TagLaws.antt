@@ -19,9 +19,6 @@ goes_round W n h =
 pub tags : (W : ℕ) → W < 16 → (1 * 2 ^ W) % 2 ^ 16 ≡ 2 ^ W
 tags W h = shl_exact 1 W 16 (omega arith) (omega arith) ∙ one-mul (2 ^ W)
 
-pub tags_pos : (W : ℕ) → W < 16 → 0 < (1 * 2 ^ W) % 2 ^ 16
-tags_pos W h = rw (tags W h) (pow_pos W)
-
 -- the next tag, of 16 bits, whatever the width
 pub next_narrow : (W g up : ℕ) → W < 16 → up ≡ (g + 1) % 2 ^ 16 → up % ((1 * 2 ^ W) % 2 ^ 16) ≡ next_tag W g % 65536
 next_narrow W g up h e =
