@@ -1,15 +1,12 @@
 -- Laws of the program's loop: what it keeps, one turn more, and its end.
-use Prim.Native.Nat.{ℕ, suc, ◌+◌, ◌-◌, ◌*◌, ◌≤◌, ◌<◌}
+use Prim.Native.Nat.{ℕ, ◌+◌, ◌-◌, ◌*◌, ◌≤◌, ◌<◌}
 use mathlib.Core.Path.{◌≡◌, refl, sym, ap, ◌∙◌, subst}
 use mathlib.Core.Bool.{Bool, true, false, cond}
 use mathlib.Core.Logic.{◌⊎◌, inl, inr}
-use mathlib.Core.List.{List, [], ◌∷◌}
+use mathlib.Core.List.{List, []}
 use native.Mathlib.Omega.{arith}
 use native.Mathlib.Decide.{dec_lt}
 use lib.ListN.{length, get_or, take, drop, length-append, length-drop, take-append-drop, drop_of_length-le, replicate, get_or-replicate}
-use Rattle.base.specs.Bytes.{put_at}
-use Rattle.call_log.specs.Encode.{entry_bytes}
-use Rattle.call_log.specs.declared.Entry.{Entry}
 use Rattle.word.specs.Stages.{is_idle}
 use Rattle.word.specs.Inner.StepsLeft.{steps_left}
 use Rattle.runfile.specs.declared.Call.{Call}
@@ -29,7 +26,6 @@ use Rattle.runs.specs.State.{Bench, State, process_at}
 use Rattle.runs.specs.Run.{lowest, close, closing_steps}
 use Rattle.runs.specs.Turn.{turn}
 use Rattle.runs.proofs.ClosingLaws.{lowest_busy}
-use Rattle.base.proofs.Bytes.{put_same_length}
 use Rattle.base.proofs.Cases.{ever}
 use Rattle.runs.proofs.TurnLaws.{CountedAfter, counted_turn}
 
@@ -74,14 +70,6 @@ pub sound_held : (f : Sizes) (n : ℕ) (log₀ : List ℕ) (s : State) (b : Held
 sound_held f n log₀ s b flat log g v =
     subst (Sound f) (λ i. record { bench = sym g.bench i; slots = sym g.slots i; log = [] })
     (sound_as f s v s.bench.steps s.bench.gone [])
-
-put_length : (n : ℕ) (es : List Entry) (log : List ℕ) → length (put_entries n es log) ≡ length log
-put_length n [] log = refl
-put_length n (e ∷ es) log = put_length (suc n) es (put_at (5 + 12 * n) (entry_bytes e) log) ∙ put_same_length (5 + 12 * n) (entry_bytes e) log
-
-pub along_length : (f : Sizes) (N n : ℕ) (log₀ : List ℕ) (s : State) (b : HeldBench) (flat log : List ℕ) → Along f N n log₀ s b flat log
-    → length log ≡ length log₀
-along_length f N n log₀ s b flat log h = ap length h.becomes.bytes ∙ put_length n s.log log₀
 
 -- the counts of the state that the program stands for, and back
 pub held_counted : (C n : ℕ) (log₀ : List ℕ) (s : State) (b : HeldBench) (flat log : List ℕ) → Becomes C n log₀ s b flat log → CountedAfter n s

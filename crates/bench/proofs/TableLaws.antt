@@ -1,12 +1,12 @@
 -- Laws of the start's shares and of the final table, as the program takes them.
-use Prim.Native.Nat.{ℕ, suc, ◌+◌, ◌-◌, ◌*◌, ◌/◌, ◌%◌, ◌≤◌, ◌<◌}
+use Prim.Native.Nat.{ℕ, ◌+◌, ◌-◌, ◌*◌, ◌/◌, ◌%◌, ◌≤◌, ◌<◌}
 use mathlib.Core.Path.{◌≡◌, refl, sym, ap, ◌∙◌}
 use mathlib.Core.List.{List, [], ◌++◌}
 use native.Mathlib.Omega.{arith}
 use native.Mathlib.Decide.{dec_lt, ℕ_discrete}
 use lib.ListN.{length, get_or, take, drop, set, replicate, length-append, length-take, length-drop, length-set}
 use lib.ListN.{get_or-replicate, get_or-append, get_or-eq_default}
-use lib.Seq.{sets-eq, length-take-le, get_or-take, get_or-drop, get_or-append-add, ext_get_or}
+use lib.Seq.{length-take-le, get_or-take, get_or-drop, get_or-append-add, ext_get_or}
 use borrow.Author.Tests.{lt-ltb, le-ltb, le-leb}
 use native.Mathlib.Numerals.{add-one}
 use Rattle.base.specs.Bytes.{put_at}
@@ -18,18 +18,10 @@ use Rattle.records.specs.declared.Process.{Process as HeldProcess}
 use Rattle.base.specs.Lists.{list_of}
 use Rattle.base.proofs.Lists.{list_of-length, list_of_get_d}
 use Rattle.word.specs.declared.Word.{Word}
-use Rattle.runfile.specs.File.{length_at, first_lengths}
 use Rattle.runs.specs.Run.{table_row, in_table}
 use Rattle.records.specs.Inner.Records.{process_in, slots_place}
 use Rattle.bench.specs.Inner.Layout.{idle_held, process_at_in, slots_of, slots_in}
 use Rattle.bench.proofs.LayoutLaws.{slots_get}
-
--- the script length of process p; from P on there is none
-pub share_there : (s : List ℕ) (P p : ℕ) → p < P → length_at s p ≡ get_or (first_lengths s P) p 0
-share_there s P p h = sym (get_or-take P (drop 4 s) p 0 h ∙ get_or-drop 4 s p 0)
-
-pub share_past : (s : List ℕ) (P p : ℕ) → P ≤ p → 0 ≡ get_or (first_lengths s P) p 0
-share_past s P p h = sym (get_or-eq_default (first_lengths s P) 0 {n = p} (omega (arith, length-take P (drop 4 s))))
 
 -- the first p processes have their scripts, and the next one begins where they stop
 pub record Scripts (shares : List ℕ) (p next : ℕ) (l : List HeldProcess) : Type 0 where
@@ -83,25 +75,6 @@ module _ (at : ℕ) (xs l : List ℕ) (h : at + length xs ≤ length l) where
       ap (λ (x : List ℕ). get_or x (at + length xs + k) 0) put_is
       ∙ ap (λ (i : ℕ). get_or (take at l ++ xs ++ drop (at + length xs) l) (i + k) 0) (sym both)
       ∙ get_or-append-add (take at l ++ xs) (drop (at + length xs) l) k 0 ∙ get_or-drop (at + length xs) l k 0
-
--- bottom, top and tag, put in number by number
-abbrev pub three_set : List ℕ → ℕ → Word → List ℕ
-three_set table from w = set (set (set table from w.bottom) (from + 1) w.top) (from + 2) w.tag
-
-module _ (table : List ℕ) (from : ℕ) (w : Word) where
-  pub three_set_lem : length (three_set table from w) ≡ length table
-  three_set_lem = simp length-set refl
-
-  -- and then the slots: the row is put in
-  pub row_put : (slots : List ℕ) → from + length (table_row w slots) ≤ length table
-      → put_at (from + 3) slots (three_set table from w) ≡ put_at from (table_row w slots) table
-  row_put slots h =
-      let e : from + 1 ≡ suc from = omega arith in
-      let f : from + 2 ≡ suc (suc from) = omega arith in
-      let g : from + 3 ≡ suc (suc (suc from)) = omega arith in
-      let l : from + 3 + length slots ≤ length (three_set table from w) = omega (arith, three_set_lem) in
-      put_is (from + 3) slots (three_set table from w) l ∙ sym (sets-eq slots (three_set table from w) (from + 3) l)
-      ∙ rw (e, f, g) (sets-eq (table_row w slots) table from h) ∙ sym (put_is from (table_row w slots) table h)
 
 -- number k of the table whose queue q has the word w q
 abbrev table_of : ℕ → (ℕ → Word) → List (List ℕ) → ℕ → ℕ

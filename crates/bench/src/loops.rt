@@ -1,9 +1,8 @@
 // The loop of a run, over the schedule and for the closing.
 ghost use Rattle.std.specs.Prelude.{◌≡◌, length};
 ghost use Rattle.base.specs.Lists.{list_of};
-ghost use Rattle.word.specs.Stages.{is_idle};
 ghost use Rattle.runs.specs.Run.{close as close_of, closing_steps};
-ghost use Rattle.runs.specs.Inner.Half.{bit as bit_of, half_done};
+ghost use Rattle.runs.specs.Inner.Half.{half_done};
 ghost use Rattle.runfile.specs.File.{first_calls};
 ghost use Rattle.bench.specs.Inner.Layout.{process_at_in, state_in, Becomes, ToWalk, ToClose};
 ghost use Rattle.bench.specs.Inner.Walk.{walked};
@@ -12,7 +11,6 @@ use crate::turn::{Turn, step_slots};
 use crate::{Bench, CLOSING_ROUNDS, Queue};
 use records::{Process, if_so};
 use runfile::Shape;
-use word::Stage;
 
 // A schedule, step by step. In the closing a process that is in no call is passed over, and begins none. Once the log has every call of the file no
 // process has one left, so the rest of the schedule is counted. The bench is altered where it stands: handing all of it to a step and back would
@@ -75,19 +73,13 @@ pub(crate) fn walk(
     run
 }
 
-fn bit(stage: Stage) -> u8
-    ensures { result ≡ bit_of (is_idle stage) }
-{
-    if stage.is_idle() { 0 } else { 1 }
-}
-
 // The half-done processes, as a set of eight bits.
 fn half_done(processes: &[Process; 8]) -> u8
     ensures { result ≡ half_done (list_of 8 (process_at_in processes.now)) }
 {
     let mut set: u8 = 0;
     for i in (0..processes.len()).rev() {
-        set = 2 * set + bit(processes[i].stage);
+        set = 2 * set + u8::from(!processes[i].is_idle());
     }
     set
 }

@@ -6,5 +6,5 @@ ghost use Rattle.records.specs.Inner.Records.{slots_place};
 pub fn slots_place(size: u8, q: u8) -> usize
     ensures { result ≡ slots_place size q }
 {
-    (size as usize) * (q as usize)
+    usize::from(size) * usize::from(q)
 }

@@ -9,18 +9,18 @@ use Rattle.bench.proofs.steps.Goals as goal
 pub slice_bounds-walk-end : goal.slice_bounds-walk-end
 slice_bounds-walk-end c = omega (
   arith,
-  schedule_fits c.args.file.now (λ i. (c.shared_slice_known-1.given i).fits) c.args.shape c.requires.0 _ c.schedule_place-from.ensures.0,
+  schedule_fits c.args.file.now (λ i. (c.type_inv.file i).fits) c.args.shape c.requires.0 _ c.schedule_place-from.ensures.0,
 )
 
 pub walk-played-requires : goal.walk-played-requires
-walk-played-requires c = to_walk c.args.file.now (λ i. (c.shared_slice_known-1.given i).fits) c.args.shape c.requires.0 _ c.schedule_place-from.ensures.0
+walk-played-requires c = to_walk c.args.file.now (λ i. (c.type_inv.file i).fits) c.args.shape c.requires.0 _ c.schedule_place-from.ensures.0
     c.start-started.result c.start-started.ensures c.args.slots.now c.requires.1
 
 pub close-requires : goal.close-requires
-close-requires c = to_close c.args.file.now (λ i. (c.shared_slice_known-1.given i).fits) c.args.shape c.requires.0 _ c.schedule_place-from.ensures.0
+close-requires c = to_close c.args.file.now (λ i. (c.type_inv.file i).fits) c.args.shape c.requires.0 _ c.schedule_place-from.ensures.0
     c.start-started.result c.start-started.ensures c.args.slots.now c.requires.1 _ _ _ _ c.walk-played.ensures
-    (c.slots-1.given ∙ ap length c.requires.1)
+    (c.walk-played.auto.slots ∙ ap length c.requires.1)
 
 pub returns : goal.returns
-returns c = becomes_closed c.args.file.now (λ i. (c.shared_slice_known-1.given i).fits) c.args.shape c.requires.0 _ c.schedule_place-from.ensures.0
+returns c = becomes_closed c.args.file.now (λ i. (c.type_inv.file i).fits) c.args.shape c.requires.0 _ c.schedule_place-from.ensures.0
     c.start-started.result c.start-started.ensures c.args.slots.now c.requires.1 _ _ _ _ c.walk-played.ensures _ _ _ c.close.ensures

@@ -47,7 +47,7 @@ loop-preserved c =
     let next = next_closed (bench_in l.after).processes along.counted.processes _ h.ensures in
     let left = c.if-set-eq0.false in
     let busy = run_open (bench_in l.after).processes along.counted.processes _ h.ensures left in (
-      omega (arith, c.slots-1.given, l.invariant.0),
+      omega (arith, c.walk-after.auto.slots, l.invariant.0),
       closing_next (sizes_in c.args.shape) _ _ _ _ _ _ _ _ l.invariant.1 (count_trailing_zeros 8 h.result) next busy c.requires.fit
           (first_calls c.args.file.now c.args.shape.processes c.args.shape.calls)
           (calls_in_lem c.args.file.now c.args.shape.processes c.args.shape.calls) _ _ _

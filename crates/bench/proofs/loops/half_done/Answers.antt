@@ -1,7 +1,9 @@
 -- `loops::half_done` meets its contract.
-use mathlib.Core.Path.{◌≡◌, sym, ap, ◌∙◌}
+use mathlib.Core.Path.{◌≡◌, refl, sym, ap, ◌∙◌}
+use mathlib.Core.Bool.{Bool, true, false, not}
+use Rattle.std.specs.Int.{from_bool}
 use mathlib.Core.List.{List}
-use Prim.Native.Nat.{ℕ, ◌-◌, ◌<◌}
+use Prim.Native.Nat.{ℕ, ◌≤◌, ◌<◌}
 use native.Mathlib.Omega.{arith}
 use lib.ListN.{length, get_or}
 use Rattle.base.specs.Lists.{list_of}
@@ -20,9 +22,17 @@ all l = list_of 8 (process_at_in l)
 eight : (l : List HeldProcess) → length (all l) ≡ 8
 eight l = list_of-length 8 (process_at_in l)
 
-half_of : (l : List HeldProcess) (i half : ℕ) → i < 8 → half ≡ bit (is_idle (get_or l i idle_held).stage)
+bit_is : (t : Bool) → from_bool (not t) ≡ bit t
+bit_is true = refl
+bit_is false = refl
+
+half_of : (l : List HeldProcess) (i half : ℕ) (t : Bool) → half ≡ from_bool (not t) → t ≡ is_idle (get_or l i idle_held).stage → i < 8
     → half ≡ bit (is_idle (get_or (all l) i nobody).stage)
-half_of l i half lt e = e ∙ ap (λ (x : Process). bit (is_idle x.stage)) (sym (list_of_get_d 8 (process_at_in l) nobody i lt))
+half_of l i half t h e lt =
+    h ∙ bit_is t ∙ ap bit e ∙ ap (λ (x : Process). bit (is_idle x.stage)) (sym (list_of_get_d 8 (process_at_in l) nobody i lt))
+
+half_most : (half : ℕ) (t : Bool) → half ≡ from_bool (not t) → half ≤ 1
+half_most half t h = omega (arith, h ∙ bit_is t, bit_most t)
 
 pub overflow_mul-set : goal.overflow_mul-set
 overflow_mul-set c =
@@ -35,8 +45,7 @@ overflow_add-set c =
     omega (
       arith,
       half_fits (all c.args.processes.now) (eight c.args.processes.now) h.i h.set h.invariant c.loop-i-test.true,
-      c.bit.ensures,
-      bit_most (is_idle (get_or c.args.processes.now (h.i - 1) idle_held).stage),
+      half_most _ _ c.from.ensures,
     )
 
 pub loop-i-preserved : goal.loop-i-preserved
@@ -44,4 +53,4 @@ loop-i-preserved c =
     let l = c.args.processes.now in
     let h = c.loop-i in
     let more = c.loop-i-test.true in
-    half_loop (all l) (eight l) _ _ _ h.invariant more (omega arith) (half_of l _ _ (omega (arith, more)) c.bit.ensures)
+    half_loop (all l) (eight l) _ _ _ h.invariant more (omega arith) (half_of l _ _ _ c.from.ensures c.is_idle.ensures (omega (arith, more)))
