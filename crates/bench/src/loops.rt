@@ -8,7 +8,7 @@ ghost use Rattle.bench.specs.Inner.Layout.{process_at_in, state_in, Becomes, ToW
 ghost use Rattle.bench.specs.Inner.Walk.{walked};
 
 use crate::turn::{Turn, step_slots};
-use crate::{Bench, CLOSING_ROUNDS, Queue};
+use crate::{Bench, CLOSING_ROUNDS};
 use records::{Process, if_so};
 use runfile::Shape;
 
@@ -46,10 +46,9 @@ pub(crate) fn walk(
         let on = q as usize;
         let queue = run.queues[on];
         let stepped = step_slots(shape.width, shape.size, queue.word, slots, q, of);
-        let word = stepped.word;
+        run.queues[on].word = stepped.word;
         let then = of.after(n, queue.resets, stepped);
         if !then.is_idle() {
-            run.queues[on] = Queue { word, ..queue };
             run.processes[at] = then;
             continue;
         }
@@ -63,10 +62,7 @@ pub(crate) fn walk(
         };
         let told = turn.tell(log, run.entries, stepped);
         run.processes[at] = then;
-        run.queues[on] = Queue {
-            word,
-            resets: told.resets,
-        };
+        run.queues[on].resets = told.resets;
         run.entries += told.more;
         run.gone += told.gone;
     }

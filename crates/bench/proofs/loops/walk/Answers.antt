@@ -1,10 +1,12 @@
 -- `loops::walk` meets its contract: after i steps the bench stands for the state that the first i bytes of the schedule lead to.
 use Prim.Native.Nat.{ℕ, ◌+◌, ◌-◌, ◌≤◌, ◌<◌}
-use mathlib.Core.Path.{◌≡◌, sym, ap, ◌∙◌}
+use mathlib.Core.Path.{◌≡◌, sym, ap, ◌∙◌, subst}
 use mathlib.Core.Bool.{Bool, true, false, cond}
 use mathlib.Core.Logic.{inr}
 use mathlib.Core.List.{List}
 use lib.ListN.{length, get_or, set}
+use lib.Seq.{get_or-set_same}
+use Rattle.std.proofs.lemmas.List.{set-set}
 use native.Mathlib.Omega.{arith}
 use Rattle.word.specs.Stages.{is_idle}
 use Rattle.runs.specs.State.{Process}
@@ -17,6 +19,7 @@ use Rattle.records.specs.Inner.Records.{process_in}
 use Rattle.bench.specs.Inner.Layout.{record_in, state_in, sizes_in, fresh_held, Becomes, ToWalk, StepsIn, Tells}
 use Rattle.bench.specs.Inner.Walk.{walked_one}
 use Rattle.bench.specs.declared.Bench.{Bench}
+use Rattle.bench.specs.declared.Queue.{Queue}
 use Rattle.bench.specs.declared.turn.Told.{Told}
 use Rattle.steps.specs.Packed.{PackedStep}
 use Rattle.records.specs.declared.Process.{Process as HeldProcess}
@@ -81,18 +84,30 @@ module _ (file : List ℕ) (closing : Bool) (i : ℕ) {a : Shape} {schedule : Li
     module _ (busy : is_idle r.stage ≡ false) {q : ℕ} (on_q : q ≡ queue_of process r.call) {o : PackedStep} {slots' : List ℕ}
         (stepped : StepsIn a.width a.size (get_or run.queues q fresh_held).word slots q r.stage o slots') {z : HeldProcess}
         (left : process_in z ≡ process_after run.steps (get_or run.queues q fresh_held).resets r o.next) where
-      abbrev after : ℕ → ℕ → ℕ → Bench
-      after resets entries gone = record {
-        queues = set run.queues q (record { word = o.word; resets = resets });
+      abbrev after : List Queue → ℕ → ℕ → Bench
+      after queues entries gone = record {
+        queues = queues;
         processes = set run.processes process z;
         entries = entries;
         steps = run.steps + 1;
         gone = gone;
       }
 
+      -- the queue with its word stored, and then its resets
+      abbrev with_word : Queue
+      with_word = record { word = o.word; resets = (get_or run.queues q fresh_held).resets }
+
+      abbrev stored : ℕ → List Queue
+      stored n = set (set run.queues q with_word) q (record { word = (get_or (set run.queues q with_word) q fresh_held).word; resets = n })
+
+      stored_is : (n : ℕ) → stored n ≡ set run.queues q (record { word = o.word; resets = n })
+      stored_is n =
+          rw (get_or-set_same run.queues q with_word fresh_held (omega (arith, come.0.becomes.whole.queues, q_small busy on_q)))
+          (set-set run.queues q with_word (record { word = o.word; resets = n }))
+
       stays : is_idle z.stage ≡ false
           → Walked (sizes_in a) a.calls state.entries closing (calls_of file a) schedule log₀ (state_in a.size state slots₀) (i + 1)
-          (after (get_or run.queues q fresh_held).resets run.entries run.gone) slots' log
+          (after (set run.queues q with_word) run.entries run.gone) slots' log
       stays half = more
           (way_on (sizes_in a) given.fit closing (calls_of file a) calls_are run slots log come.0.sound process below_P r ready_is busy q on_q o
           slots' stepped come.0.becomes.whole z left half)
@@ -100,10 +115,13 @@ module _ (file : List ℕ) (closing : Bool) (i : ℕ) {a : Shape} {schedule : Li
       ends : {m : Told} {log' : List ℕ}
           → Tells process run.steps run.entries r (record_in run q) (get_or run.queues q fresh_held).word (get_or run.queues q fresh_held).resets o log m log'
           → Walked (sizes_in a) a.calls state.entries closing (calls_of file a) schedule log₀ (state_in a.size state slots₀) (i + 1)
-          (after m.resets (run.entries + m.more) (run.gone + m.gone)) slots' log'
-      ends {m = m} {log' = log'} told = more
+          (after (stored m.resets) (run.entries + m.more) (run.gone + m.gone)) slots' log'
+      ends {m = m} {log' = log'} told =
+          subst (λ (l : List Queue). Walked (sizes_in a) a.calls state.entries closing (calls_of file a) schedule log₀ (state_in a.size state slots₀) (i + 1)
+          (after l (run.entries + m.more) (run.gone + m.gone)) slots' log')
+          (sym (stored_is m.resets)) (more
           (way_ends (sizes_in a) given.fit closing (calls_of file a) calls_are run slots log come.0.sound process below_P r ready_is busy q on_q o
-          slots' stepped come.0.becomes.whole z left m log' told)
+          slots' stepped come.0.becomes.whole z left m log' told))
 
 pub loop-i-init : goal.loop-i-init
 loop-i-init c = (
@@ -156,8 +174,8 @@ bounds-run-on-in-loop-i-2 c =
     q_small c.args.file.now _ _ c.requires c.loop-i.invariant.2 c.loop-i-test.true c.ready-of.ensures
     (sym c.is_idle.ensures ∙ c.if-is_idle.false) c.queue_of-q.ensures
 
-pub bounds-run-on-then-not-is_idle : goal.bounds-run-on-then-not-is_idle
-bounds-run-on-then-not-is_idle c =
+pub bounds-run-on-in-loop-i-3 : goal.bounds-run-on-in-loop-i-3
+bounds-run-on-in-loop-i-3 c =
     q_small c.args.file.now _ _ c.requires c.loop-i.invariant.2 c.loop-i-test.true c.ready-of.ensures
     (sym c.is_idle.ensures ∙ c.if-is_idle.false) c.queue_of-q.ensures
 
