@@ -23,8 +23,8 @@ call_at_lem s processes k r q = one_value
 pub call_of_lem : (processes code argument : ℕ) (r q : Result Call Refusal) → r ≡ call_of processes code argument → q ≡ call_of processes code argument → r ≡ q
 call_of_lem processes code argument r q = one_value
 
-pub coded_within_lem : (s : List ℕ) (processes k : ℕ) (r q : Result Call Refusal) → r ≡ coded_at s processes k → q ≡ coded_at s processes k → r ≡ q
-coded_within_lem s processes k r q = one_value
+pub coded_at_lem : (s : List ℕ) (processes k : ℕ) (r q : Result Call Refusal) → r ≡ coded_at s processes k → q ≡ coded_at s processes k → r ≡ q
+coded_at_lem s processes k r q = one_value
 
 -- of a refusal as a number
 pub number_lem : (why : Refusal) (r q : ℕ) → r ≡ refusal_number why → q ≡ refusal_number why → r ≡ q

@@ -39,8 +39,8 @@ pub fn call_of(processes: u8, code: u8, argument: u16) -> Result<Call, Refusal>
     }
 }
 
-// What the bytes of call k say, where they stand in the file: a caller tests that once, for all calls.
-pub fn coded_within(file: &[u8], processes: u8, k: u16) -> Result<Call, Refusal>
+// What the bytes of call k say, where they stand in the file.
+fn coded_within(file: &[u8], processes: u8, k: u16) -> Result<Call, Refusal>
     requires { call_place processes (k + 1) ≤ length file.now }
     ensures { result ≡ coded_at file.now processes k }
 {
@@ -50,7 +50,7 @@ pub fn coded_within(file: &[u8], processes: u8, k: u16) -> Result<Call, Refusal>
 }
 
 // What the bytes of call k say; bytes past the end read as 0, and one test tells whether there are any.
-fn coded_at(file: &[u8], processes: u8, k: u16) -> Result<Call, Refusal>
+pub fn coded_at(file: &[u8], processes: u8, k: u16) -> Result<Call, Refusal>
     ensures { result ≡ coded_at file.now processes k }
 {
     let at = call_place(processes, k);

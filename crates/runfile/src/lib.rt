@@ -7,7 +7,7 @@ ghost use Rattle.runfile.specs.Refusals.{refusal_number};
 mod calls; // section 3's calls, each by its code and argument
 mod places; // where the bytes stand
 
-pub use crate::calls::{call_at, call_of, coded_within};
+pub use crate::calls::{call_at, call_of, coded_at};
 pub use crate::places::{
     PROCESSES_PLACE, SIZE_PLACE, WIDTH_PLACE, call_place, calls_before, length_at, shape_in,
     share_place,
