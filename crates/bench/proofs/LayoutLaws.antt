@@ -29,7 +29,7 @@ module _ (xs ys : List ℕ) (a k : ℕ) (h : a + k ≤ length xs) (e : length ys
   front : length (take a xs) ≡ a
   front = length-take-le a xs (omega arith)
 
-  put_before : (n : ℕ) → n < a → get_or (put_mid a k xs ys) n 0 ≡ get_or xs n 0
+  pub put_before : (n : ℕ) → n < a → get_or (put_mid a k xs ys) n 0 ≡ get_or xs n 0
   put_before n l = get_or-append (take a xs) (ys ++ drop k (drop a xs)) 0 n (omega (arith, front)) ∙ get_or-take a xs n 0 l
 
   put_past : (m : ℕ) → get_or (put_mid a k xs ys) (a + m) 0 ≡ get_or (ys ++ drop k (drop a xs)) m 0
@@ -37,17 +37,17 @@ module _ (xs ys : List ℕ) (a k : ℕ) (h : a + k ≤ length xs) (e : length ys
       ap (λ (i : ℕ). get_or (take a xs ++ (ys ++ drop k (drop a xs))) (i + m) 0) (sym front)
       ∙ get_or-append-add (take a xs) (ys ++ drop k (drop a xs)) m 0
 
-  put_in : (m : ℕ) → m < k → get_or (put_mid a k xs ys) (a + m) 0 ≡ get_or ys m 0
+  pub put_in : (m : ℕ) → m < k → get_or (put_mid a k xs ys) (a + m) 0 ≡ get_or ys m 0
   put_in m l = put_past m ∙ get_or-append ys (drop k (drop a xs)) 0 m (omega arith)
 
-  put_after : (r : ℕ) → get_or (put_mid a k xs ys) (a + (k + r)) 0 ≡ get_or xs (a + (k + r)) 0
+  pub put_after : (r : ℕ) → get_or (put_mid a k xs ys) (a + (k + r)) 0 ≡ get_or xs (a + (k + r)) 0
   put_after r =
       put_past (k + r)
       ∙ ap (λ (i : ℕ). get_or (ys ++ drop k (drop a xs)) (i + r) 0) (sym e)
       ∙ get_or-append-add ys (drop k (drop a xs)) r 0
       ∙ get_or-drop k (drop a xs) r 0 ∙ get_or-drop a xs (k + r) 0
 
-  put_length : length (put_mid a k xs ys) ≡ length xs
+  pub put_length : length (put_mid a k xs ys) ≡ length xs
   put_length = same_len_mid a k xs ys (e ∙ sym (length-take-le k (drop a xs) (simp length-drop (omega arith))))
 
 -- the slots of a queue end where those of the next begin, and all lie in the row

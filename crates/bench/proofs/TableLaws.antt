@@ -1,12 +1,12 @@
 -- Laws of the start's shares and of the final table, as the program takes them.
 use Prim.Native.Nat.{ℕ, ◌+◌, ◌-◌, ◌*◌, ◌/◌, ◌%◌, ◌≤◌, ◌<◌}
 use mathlib.Core.Path.{◌≡◌, refl, sym, ap, ◌∙◌}
-use mathlib.Core.List.{List, [], ◌++◌}
+use mathlib.Core.List.{List, [], ◌++◌, append_assoc}
 use native.Mathlib.Omega.{arith}
 use native.Mathlib.Decide.{dec_lt, ℕ_discrete}
-use lib.ListN.{length, get_or, take, drop, set, replicate, length-append, length-take, length-drop, length-set}
-use lib.ListN.{get_or-replicate, get_or-append, get_or-eq_default}
-use lib.Seq.{length-take-le, get_or-take, get_or-drop, get_or-append-add, ext_get_or}
+use lib.ListN.{length, get_or, take, drop, set, replicate, length-take, length-set}
+use lib.ListN.{get_or-replicate, get_or-eq_default}
+use lib.Seq.{drop-drop, ext_get_or}
 use borrow.Author.Tests.{lt-ltb, le-ltb, le-leb}
 use native.Mathlib.Numerals.{add-one}
 use Rattle.base.specs.Bytes.{put_at}
@@ -21,7 +21,8 @@ use Rattle.word.specs.declared.Word.{Word}
 use Rattle.runs.specs.Run.{table_row, in_table}
 use Rattle.records.specs.Inner.Records.{process_in, slots_place}
 use Rattle.bench.specs.Inner.Layout.{idle_held, process_at_in, slots_of, slots_in}
-use Rattle.bench.proofs.LayoutLaws.{slots_get}
+use Rattle.bench.proofs.LayoutLaws.{put_before, put_in, put_after, put_length, slots_get}
+use borrow.Rule.Slice.PartMut.{put_mid}
 
 -- the first p processes have their scripts, and the next one begins where they stop
 pub record Scripts (shares : List ℕ) (p next : ℕ) (l : List HeldProcess) : Type 0 where
@@ -44,37 +45,10 @@ script_more shares p next n l x h lt e is =
           (λ d. scripted_is ∙ ap (scripted shares) (sym d)) (λ ne. h.each k (omega arith));
     }
 
--- numbers put into a list, by places
-module _ (at : ℕ) (xs l : List ℕ) (h : at + length xs ≤ length l) where
-  put_is : put_at at xs l ≡ take at l ++ xs ++ drop (at + length xs) l
-  put_is = rw (le-leb (at + length xs) (length l) h)
-
-  front : length (take at l) ≡ at
-  front = length-take-le at l (omega arith)
-
-  both : length (take at l ++ xs) ≡ at + length xs
-  both = omega (arith, length-append (take at l) xs, front)
-
-  put_length : length (put_at at xs l) ≡ length l
-  put_length = ap length put_is ∙ omega (arith, length-append (take at l ++ xs) (drop (at + length xs) l), both, length-drop (at + length xs) l)
-
-  put_before : (k : ℕ) → k < at → get_or (put_at at xs l) k 0 ≡ get_or l k 0
-  put_before k m =
-      ap (λ (x : List ℕ). get_or x k 0) put_is
-      ∙ get_or-append (take at l ++ xs) (drop (at + length xs) l) 0 k (omega (arith, both))
-      ∙ get_or-append (take at l) xs 0 k (omega (arith, front)) ∙ get_or-take at l k 0 m
-
-  put_in : (k : ℕ) → k < length xs → get_or (put_at at xs l) (at + k) 0 ≡ get_or xs k 0
-  put_in k m =
-      ap (λ (x : List ℕ). get_or x (at + k) 0) put_is
-      ∙ get_or-append (take at l ++ xs) (drop (at + length xs) l) 0 (at + k) (omega (arith, both))
-      ∙ ap (λ (i : ℕ). get_or (take at l ++ xs) (i + k) 0) (sym front) ∙ get_or-append-add (take at l) xs k 0
-
-  put_past : (k : ℕ) → get_or (put_at at xs l) (at + length xs + k) 0 ≡ get_or l (at + length xs + k) 0
-  put_past k =
-      ap (λ (x : List ℕ). get_or x (at + length xs + k) 0) put_is
-      ∙ ap (λ (i : ℕ). get_or (take at l ++ xs ++ drop (at + length xs) l) (i + k) 0) (sym both)
-      ∙ get_or-append-add (take at l ++ xs) (drop (at + length xs) l) k 0 ∙ get_or-drop (at + length xs) l k 0
+-- numbers put into a list are a part of it
+put_is : (at : ℕ) (xs l : List ℕ) → at + length xs ≤ length l → put_at at xs l ≡ put_mid at (length xs) l xs
+put_is at xs l h = rw (le-leb (at + length xs) (length l) h)
+    (append_assoc (take at l) xs (drop (at + length xs) l) ∙ ap (λ (t : List ℕ). take at l ++ (xs ++ t)) (sym (drop-drop (length xs) at l)))
 
 -- number k of the table whose queue q has the word w q
 abbrev table_of : ℕ → (ℕ → Word) → List (List ℕ) → ℕ → ℕ
@@ -115,21 +89,28 @@ module _ (w : ℕ → Word) (slots : List (List ℕ)) where
     above k l (yes d) = inside k d ∙ get_or-eq_default row 0 {n = k % 67} (omega arith)
     above k l (no d) = beyond (q + 1) k (omega arith)
 
-    place : (k : ℕ) → k < 536 → Dec (k < 67 * q) → Dec (k < 67 * q + length row) → get_or (put_at (67 * q) row table) k 0 ≡ table_of (q + 1) w slots k
-    place k m (yes p) r = put_before (67 * q) row table fits k p ∙ f.places k m ∙ within q k (omega arith) ∙ sym (within (q + 1) k (omega arith))
+    put : put_at (67 * q) row table ≡ put_mid (67 * q) (length row) table row
+    put = put_is (67 * q) row table fits
+
+    place : (k : ℕ) → k < 536 → Dec (k < 67 * q) → Dec (k < 67 * q + length row)
+        → get_or (put_mid (67 * q) (length row) table row) k 0 ≡ table_of (q + 1) w slots k
+    place k m (yes p) r =
+        put_before table row (67 * q) (length row) fits refl k p ∙ f.places k m ∙ within q k (omega arith) ∙ sym (within (q + 1) k (omega arith))
     place k m (no p) (yes r) =
         let d : k ≡ 67 * q + k % 67 = omega arith in
-        ap (λ (i : ℕ). get_or (put_at (67 * q) row table) i 0) d ∙ put_in (67 * q) row table fits (k % 67) (omega arith) ∙ sym (inside k (omega arith))
+        ap (λ (i : ℕ). get_or (put_mid (67 * q) (length row) table row) i 0) d
+        ∙ put_in table row (67 * q) (length row) fits refl (k % 67) (omega arith) ∙ sym (inside k (omega arith))
     place k m (no p) (no r) =
-        let d : k ≡ 67 * q + length row + (k - (67 * q + length row)) = omega arith in
-        ap (λ (i : ℕ). get_or (put_at (67 * q) row table) i 0) d ∙ put_past (67 * q) row table fits (k - (67 * q + length row))
+        let d : k ≡ 67 * q + (length row + (k - (67 * q + length row))) = omega arith in
+        ap (λ (i : ℕ). get_or (put_mid (67 * q) (length row) table row) i 0) d
+        ∙ put_after table row (67 * q) (length row) fits refl (k - (67 * q + length row))
         ∙ ap (λ (i : ℕ). get_or table i 0) (sym d) ∙ f.places k m ∙ beyond q k (omega arith) ∙ sym (above k (omega arith) (ℕ_discrete (k / 67) q))
 
     pub row_filled : Filled (q + 1) w slots (put_at (67 * q) row table)
-    row_filled = record {
-      whole = put_length (67 * q) row table fits ∙ f.whole;
+    row_filled = rw put (record {
+      whole = put_length table row (67 * q) (length row) fits refl ∙ f.whole;
       places = λ k h. place k h (dec_lt k (67 * q)) (dec_lt k (67 * q + length row));
-    }
+    })
 
 -- the slots of queue q in the row of all slots
 module _ (C : ℕ) (flat : List ℕ) (q from : ℕ) (is : from ≡ slots_place C q) where

@@ -1,4 +1,5 @@
-// Where the slots of a queue lie in the one row that has those of all queues.
+// Where the slots of a queue lie in the one row that has those of all queues. It is no array of rows: C is known when a file is read, and theorem
+// `every_state_held` has slot i of queue q at C × q + i.
 ghost use Rattle.std.specs.Prelude.{◌≡◌};
 ghost use Rattle.records.specs.Inner.Records.{slots_place};
 

@@ -1,6 +1,6 @@
 -- `loops::walk` meets its contract: after i steps the bench stands for the state that the first i bytes of the schedule lead to.
 use Prim.Native.Nat.{ℕ, ◌+◌, ◌-◌, ◌≤◌, ◌<◌}
-use mathlib.Core.Path.{◌≡◌, sym, ap, ◌∙◌, subst}
+use mathlib.Core.Path.{◌≡◌, refl, sym, ap, ◌∙◌, subst}
 use mathlib.Core.Bool.{Bool, true, false, cond}
 use mathlib.Core.Logic.{inr}
 use mathlib.Core.List.{List}
@@ -159,31 +159,15 @@ loop-i-preserved-then-is_idle c = (
       (sym c.is_idle.ensures ∙ c.if-is_idle.true) c.loop-i.invariant.1,
 )
 
-pub bounds-run-on : goal.bounds-run-on
-bounds-run-on c =
+pub queue_in-q-requires : goal.queue_in-q-requires
+queue_in-q-requires c =
     q_small c.args.file.now _ _ c.requires c.loop-i.invariant.2 c.loop-i-test.true c.ready-of.ensures
-    (sym c.is_idle.ensures ∙ c.if-is_idle.false) c.queue_of-q.ensures
-
-pub bounds-run-on-in-loop-i : goal.bounds-run-on-in-loop-i
-bounds-run-on-in-loop-i c =
-    q_small c.args.file.now _ _ c.requires c.loop-i.invariant.2 c.loop-i-test.true c.ready-of.ensures
-    (sym c.is_idle.ensures ∙ c.if-is_idle.false) c.queue_of-q.ensures
-
-pub bounds-run-on-in-loop-i-2 : goal.bounds-run-on-in-loop-i-2
-bounds-run-on-in-loop-i-2 c =
-    q_small c.args.file.now _ _ c.requires c.loop-i.invariant.2 c.loop-i-test.true c.ready-of.ensures
-    (sym c.is_idle.ensures ∙ c.if-is_idle.false) c.queue_of-q.ensures
-
-pub bounds-run-on-in-loop-i-3 : goal.bounds-run-on-in-loop-i-3
-bounds-run-on-in-loop-i-3 c =
-    q_small c.args.file.now _ _ c.requires c.loop-i.invariant.2 c.loop-i-test.true c.ready-of.ensures
-    (sym c.is_idle.ensures ∙ c.if-is_idle.false) c.queue_of-q.ensures
+    (sym c.is_idle.ensures ∙ c.if-is_idle.false) refl
 
 pub step_slots-stepped-requires : goal.step_slots-stepped-requires
 step_slots-stepped-requires c = (
   c.loop-i.invariant.0,
-  q_small c.args.file.now _ _ c.requires c.loop-i.invariant.2 c.loop-i-test.true c.ready-of.ensures
-      (sym c.is_idle.ensures ∙ c.if-is_idle.false) c.queue_of-q.ensures,
+  c.queue_in-q.ensures.1,
   c.requires.fit.size.1,
 )
 
@@ -198,7 +182,7 @@ loop-i-preserved-then-not-is_idle c = (
   omega (arith, c.step_slots-stepped.auto.slots, c.loop-i.invariant.0),
   c.loop-i.invariant.1,
   stays c.args.file.now _ _ c.requires c.loop-i.invariant.2 c.loop-i-test.true c.ready-of.ensures (sym c.is_idle.ensures ∙ c.if-is_idle.false)
-      c.queue_of-q.ensures c.step_slots-stepped.ensures c.after-then.ensures (sym c.is_idle-in-loop-i.ensures ∙ c.if-not-is_idle.true),
+      c.queue_in-q.ensures.0 c.step_slots-stepped.ensures c.after-then.ensures (sym c.is_idle-in-loop-i.ensures ∙ c.if-not-is_idle.true),
 )
 
 pub invariant_of-turn : goal.invariant_of-turn
@@ -207,8 +191,7 @@ invariant_of-turn c =
     let p = get_or c.args.schedule.now c.loop-i.i 0 in
     let l = c.loop-i.run in
     let counted = c.loop-i.invariant.2.0.counted in
-    let small = q_small c.args.file.now _ _ c.requires c.loop-i.invariant.2 c.loop-i-test.true c.ready-of.ensures
-    (sym c.is_idle.ensures ∙ c.if-is_idle.false) c.queue_of-q.ensures in record {
+    let small = c.queue_in-q.ensures.1 in record {
       few = (
         omega (arith, few),
         omega (
@@ -218,8 +201,8 @@ invariant_of-turn c =
           ap (λ (x : Process). x.b2) c.ready-of.ensures,
           same_b2 (calls_of c.args.file.now c.args.shape) l.steps (record_in l p) c.args.closing,
         ),
-        omega (arith, few, held_b2 l l.entries counted c.queue_of-q.result small),
-        omega (arith, few, held_resets l l.entries counted c.queue_of-q.result small),
+        omega (arith, few, held_b2 l l.entries counted c.queue_in-q.result small),
+        omega (arith, few, held_resets l l.entries counted c.queue_in-q.result small),
       );
     }
 
@@ -237,7 +220,7 @@ overflow_add-run-in-loop-i-3 c =
       steps_few c.args.file.now _ _ c.requires c.loop-i.invariant.2 c.loop-i-test.true,
       c.loop-i.invariant.2.0.counted.gone,
       c.tell-told.ensures.gone,
-      gone_most (process_in c.ready-of.result) (get_or l.queues c.queue_of-q.result fresh_held).resets c.step_slots-stepped.result.next,
+      gone_most (process_in c.ready-of.result) (get_or l.queues c.queue_in-q.result fresh_held).resets c.step_slots-stepped.result.next,
     )
 
 pub loop-i-preserved : goal.loop-i-preserved
@@ -245,7 +228,7 @@ loop-i-preserved c = (
   omega (arith, c.step_slots-stepped.auto.slots, c.loop-i.invariant.0),
   c.loop-i.invariant.1,
   ends c.args.file.now _ _ c.requires c.loop-i.invariant.2 c.loop-i-test.true c.ready-of.ensures (sym c.is_idle.ensures ∙ c.if-is_idle.false)
-      c.queue_of-q.ensures c.step_slots-stepped.ensures c.after-then.ensures c.tell-told.ensures,
+      c.queue_in-q.ensures.0 c.step_slots-stepped.ensures c.after-then.ensures c.tell-told.ensures,
 )
 
 pub returns : goal.returns
