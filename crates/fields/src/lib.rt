@@ -101,10 +101,3 @@ pub fn moved(ends: u32, e: Entry) -> usize
         _ => at,
     }
 }
-
-// One of two numbers, by what was told of an entry.
-pub fn choose(h: bool, a: usize, b: usize) -> usize
-    ensures { result ≡ cond h a b }
-{
-    if h { a } else { b }
-}

@@ -1,6 +1,6 @@
 -- Rule 5 by what is kept of each queue, where all moments up to the call's end have been passed.
 use mathlib.Core.Path.{◌≡◌, refl, sym, ap, ◌∙◌}
-use mathlib.Core.Bool.{Bool, true, false, cond, ◌&&◌, not}
+use mathlib.Core.Bool.{Bool, true, false, ◌&&◌, not}
 use mathlib.Core.Logic.{◌⊎◌, inl, inr}
 use mathlib.Core.List.{List}
 use Prim.Native.Nat.{ℕ, suc, ◌+◌, ◌-◌, ◌*◌, ◌/◌, ◌%◌, ◌≤◌, ◌<◌}
@@ -194,15 +194,6 @@ module _ (f : ℕ → Entry) (n : ℕ) (keys : List ℕ) (count : ℕ) (o : Orde
 some_held : (x : ℕ) → leb 65536 x ≡ ltb 0 (x / 65536)
 some_held x = by_both (leb 65536 x) (ltb 0 (x / 65536)) (λ t. lt-ltb 0 (x / 65536) (omega (arith, leb-true 65536 x t)))
     (λ t. le-leb 65536 x (omega (arith, ltb-true 0 (x / 65536) t)))
-
--- the next entry is that of the next key, where it is due
-pub is_due : (t : Bool) (i r : ℕ) → r ≡ cond t i 256 → r < 256 → (t ≡ true) × (r ≡ i)
-is_due true i r e u = (refl, e)
-is_due false i r e u = absurd (omega arith)
-
-pub not_due : (t : Bool) (i r : ℕ) → r ≡ cond t i 256 → i < 256 → (r < 256 → ⊥) → t ≡ false
-not_due true i r e u v = absurd (v (omega arith))
-not_due false i r e u v = refl
 
 pub moved_on : (keys : List ℕ) (k b : ℕ) → moment_at keys k ≤ b → instant keys (k + 1) ≤ b + 1
 moved_on keys k b h = let e : k + 1 ≡ suc k = omega arith in rw e (omega arith)

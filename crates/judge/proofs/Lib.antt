@@ -1,3 +1,7 @@
+-- The entries of a whole log, and what a pass finds.
+pub mod EntriesLaws
+-- Whether a node is among others.
+pub mod AmongLaws
 -- Each public function's promise settles its result.
 pub mod Settled
 -- A queue's nodes as a part of an array.

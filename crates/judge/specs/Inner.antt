@@ -1,3 +1,4 @@
+pub mod Entries
 -- Terms of the code: a reader may skip them.
 pub mod Order
 pub mod Orders

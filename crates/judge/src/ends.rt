@@ -1,31 +1,26 @@
 // Rule 2: one pass in file order, with the last end of all and that of each process.
-ghost use Rattle.std.specs.Prelude.{◌≡◌, ◌≤◌};
-ghost use Rattle.call_log.specs.Decode.{entry_at};
+ghost use Rattle.std.specs.Prelude.{◌≡◌, length};
 ghost use Rattle.rules.specs.Judge.{first2};
-ghost use Rattle.judge.specs.Inner.Order.{Fields, Whole};
+ghost use Rattle.judge.specs.Inner.Entries.{entries_in, found};
+ghost use Rattle.judge.specs.Inner.Order.{Fields};
 
-use crate::read::entry;
+use call_log::{ENTRY_LENGTH, Entry};
 
-// The first entry that breaks rule 2, or n. An end is kept as the next step, so that 0 is none.
-pub(crate) fn first_clash(log: &[u8], n: usize) -> usize
-    requires { Fields (entry_at log.now) n × (n ≤ 256) × Whole log.now n }
-    ensures { result ≡ first2 (entry_at log.now) n }
+// The first entry that breaks rule 2. An end is kept as the next step, so that 0 is none.
+pub(crate) fn first_clash(entries: &[[u8; ENTRY_LENGTH]]) -> Option<usize>
+    requires { Fields (entries_in entries.now) (length entries.now) }
+    ensures { result ≡ found (length entries.now) (first2 (entries_in entries.now) (length entries.now)) }
 {
-    let mut last: usize = 0;
-    let mut own: [usize; 8] = [0; 8];
-    let mut i: usize = 0;
-    while i < n {
-        let e = entry(log, i);
-        let p = e.process as usize;
-        let start = e.start as usize;
-        let end = e.end as usize;
-        let mine = own[p];
-        if (end < last) | (start < mine) {
-            return i;
+    let mut last = 0;
+    let mut own = [0u16; 8];
+    for (i, bytes) in entries.iter().enumerate() {
+        let e = Entry::from(bytes);
+        let p = usize::from(e.process);
+        if (e.end < last) | (e.start < own[p]) {
+            return Some(i);
         }
-        last = end + 1;
+        last = e.end + 1;
         own[p] = last;
-        i = i + 1;
     }
-    i
+    None
 }

@@ -1,15 +1,14 @@
 // The judge of a log. It reads the log alone: each rule is one pass over the entries, in file order or by rising moments.
 #![tactic(auto)]
 
-ghost use Rattle.std.specs.Prelude.{◌≡◌, ◌≤◌, ◌<◌, length};
+ghost use Rattle.std.specs.Prelude.{◌≡◌, ◌≤◌, ◌<◌, ◌*◌, ℕ, length};
 ghost use Rattle.call_log.specs.Decode.{entry_at};
+ghost use Rattle.judge.specs.Inner.Entries.{entries_in};
 ghost use Rattle.judge.specs.Inner.Order.{Fields, EndsKept, Whole, is_full};
-ghost use Rattle.judge.specs.Inner.Replay.{Roomy};
 ghost use Rattle.judge.specs.Inner.Causes.{Clean, Kept34};
 ghost use Rattle.rules.specs.Search.{any};
 ghost use Rattle.rules.specs.Judge.{says, moment_rules_of, rules_of, head_right, judge_of};
 
-mod read; // an entry
 mod entries; // rule 1
 mod ends; // rule 2
 mod order; // rule 3, and the calls by rising moment
@@ -20,6 +19,7 @@ mod full; // rule 6
 mod ordered; // the calls of any log by rising moment
 
 pub use crate::ordered::in_order;
+use call_log::{ENTRY_LENGTH, HEAD_LENGTH};
 pub use rules::Verdict;
 
 fn verdict_of(number: u8, j: usize) -> Verdict
@@ -27,92 +27,83 @@ fn verdict_of(number: u8, j: usize) -> Verdict
     ensures { result ≡ says number j }
 {
     Verdict {
-        number: number,
+        number,
         entry: j as u16,
     }
 }
 
-// The rules in order, each over the whole log: 1 and 2, then the others.
-fn rules(log: &[u8], n: usize, p: u8, slots: u8) -> Verdict
-    requires { (n ≤ 256) × (p ≤ 8) × Whole log.now n }
-    ensures { result ≡ rules_of (entry_at log.now) n p slots }
+// The entries of a log that is whole.
+fn entries_of(log: &[u8]) -> &[[u8; ENTRY_LENGTH]]
+    requires { 5 ≤ length log.now }
+    ensures { (n : ℕ) → Whole log.now n → (length result.now ≡ n) × (entries_in result.now ≡ entry_at log.now) }
 {
-    let j1 = entries::first_wrong(log, n, p);
-    if j1 < n {
-        return verdict_of(14, j1);
+    log[HEAD_LENGTH..].as_chunks().0
+}
+
+// The rules in order, each over the whole log: 1 and 2, then the others.
+fn rules(entries: &[[u8; ENTRY_LENGTH]], p: u8, slots: u8) -> Verdict
+    requires { (length entries.now ≤ 256) × (p ≤ 8) }
+    ensures { result ≡ rules_of (entries_in entries.now) (length entries.now) p slots }
+{
+    if let Some(at) = entries::first_wrong(entries, p) {
+        return verdict_of(14, at);
     }
-    let j2 = ends::first_clash(log, n);
-    if j2 < n {
-        return verdict_of(15, j2);
+    if let Some(at) = ends::first_clash(entries) {
+        return verdict_of(15, at);
     }
-    moment_rules(log, n, slots)
+    moment_rules(entries, slots)
 }
 
 // Rules 3 to 6, which speak of moments, with arrays no larger than the log needs: the judge clears them.
-fn moment_rules(log: &[u8], n: usize, slots: u8) -> Verdict
-    requires { (n ≤ 256) × Fields (entry_at log.now) n × EndsKept (entry_at log.now) n × Whole log.now n }
-    ensures { result ≡ moment_rules_of (entry_at log.now) n slots }
+fn moment_rules(entries: &[[u8; ENTRY_LENGTH]], slots: u8) -> Verdict
+    requires few { length entries.now ≤ 256 }
+    requires fields { Fields (entries_in entries.now) (length entries.now) }
+    requires ends { EndsKept (entries_in entries.now) (length entries.now) }
+    ensures { result ≡ moment_rules_of (entries_in entries.now) (length entries.now) slots }
 {
-    if n <= 8 {
-        let mut keys: [usize; 8] = [0; 8];
-        let mut nodes: [u16; 72] = [0; 72];
-        return moment_rules_in(log, n, slots, &mut keys, &mut nodes, 8);
+    match entries.len() {
+        0..=8 => moment_rules_in::<8, 72>(entries, slots),
+        9..=32 => moment_rules_in::<32, 288>(entries, slots),
+        _ => moment_rules_in::<256, 2304>(entries, slots),
     }
-    if n <= 32 {
-        let mut keys: [usize; 32] = [0; 32];
-        let mut nodes: [u16; 288] = [0; 288];
-        return moment_rules_in(log, n, slots, &mut keys, &mut nodes, 32);
-    }
-    let mut keys: [usize; 256] = [0; 256];
-    let mut nodes: [u16; 2304] = [0; 2304];
-    moment_rules_in(log, n, slots, &mut keys, &mut nodes, 256)
 }
 
-// The same in arrays that are lent, where a queue's row has this width.
-fn moment_rules_in(
-    log: &[u8],
-    n: usize,
+// The same in arrays for the keys of so many entries, and for the nodes of eight queues and of all pushes, in nine rows.
+fn moment_rules_in<const WIDTH: usize, const NODES: usize>(
+    entries: &[[u8; ENTRY_LENGTH]],
     slots: u8,
-    keys: &mut [usize],
-    nodes: &mut [u16],
-    width: usize,
 ) -> Verdict
-    requires { Fields (entry_at log.now) n × EndsKept (entry_at log.now) n × Whole log.now n × Roomy n width keys.old nodes.old }
-    ensures { result ≡ moment_rules_of (entry_at log.now) n slots }
+    requires fields { Fields (entries_in entries.now) (length entries.now) }
+    requires ends { EndsKept (entries_in entries.now) (length entries.now) }
+    requires roomy { (length entries.now ≤ WIDTH) × (WIDTH ≤ 256) × (NODES ≡ 9 * WIDTH) }
+    ensures { result ≡ moment_rules_of (entries_in entries.now) (length entries.now) slots }
 {
-    let sorted = order::by_moment(log, n, keys);
-    let j3 = sorted.bad;
-    if j3 < n {
-        return verdict_of(16, j3);
+    let mut keys = [0; WIDTH];
+    let mut nodes = [0; NODES];
+    let sorted = match order::by_moment(entries, &mut keys) {
+        Ok(sorted) => sorted,
+        Err(at) => return verdict_of(16, at),
+    };
+    let keys = &keys[..sorted.count];
+    let watch = nodes::watched(entries, sorted.count);
+    if let Some(at) = replay::first_unlawful(entries, keys, &mut nodes, WIDTH, watch) {
+        return verdict_of(17, at);
     }
-    let count = sorted.count;
-    let watch = nodes::watched(log, n, count);
-    let j4 = replay::first_unlawful(log, n, keys, count, nodes, width, watch);
-    if j4 < n {
-        return verdict_of(17, j4);
-    }
-    last_rules(log, n, slots, keys, count, sorted.full)
+    last_rules(entries, slots, keys, sorted.full)
 }
 
 // Rules 5 and 6, where the others are kept.
-fn last_rules(
-    log: &[u8],
-    n: usize,
-    slots: u8,
-    keys: &[usize],
-    count: usize,
-    refused: bool,
-) -> Verdict
-    requires { Clean (entry_at log.now) n keys.now count × Whole log.now n × (n ≤ length keys.now) × Kept34 (entry_at log.now) n × (refused ≡ any (is_full (entry_at log.now)) n) }
-    ensures { result ≡ moment_rules_of (entry_at log.now) n slots }
+fn last_rules(entries: &[[u8; ENTRY_LENGTH]], slots: u8, keys: &[usize], refused: bool) -> Verdict
+    requires clean { Clean (entries_in entries.now) (length entries.now) keys.now (length keys.now) }
+    requires kept { Kept34 (entries_in entries.now) (length entries.now) }
+    requires told { refused ≡ any (is_full (entries_in entries.now)) (length entries.now) }
+    ensures { result ≡ moment_rules_of (entries_in entries.now) (length entries.now) slots }
 {
-    let j5 = causes::first_uncaused(log, n, keys, count);
-    if j5 < n {
-        return verdict_of(18, j5);
+    if let Some(at) = causes::first_uncaused(entries, keys) {
+        return verdict_of(18, at);
     }
-    let j6 = full::first_unfilled(log, n, slots, refused);
-    if j6 < n {
-        return verdict_of(19, j6);
+    if let Some(at) = full::first_unfilled(entries, slots, refused) {
+        return verdict_of(19, at);
     }
     verdict_of(0, 0)
 }
@@ -133,16 +124,14 @@ fn head_right(count: u8, p: u8, slots: u8, n: usize) -> bool
 pub fn judge(log: &[u8]) -> Verdict
     ensures { result ≡ judge_of log.now }
 {
-    if log.len() < call_log::HEAD_LENGTH {
+    if log.len() < HEAD_LENGTH {
         return verdict_of(11, 0);
     }
     let count = base::byte_at(log, 0);
     let p = base::byte_at(log, 1);
     let slots = base::byte_at(log, 2);
     let entries = base::number_at(log, 3);
-    let n = entries as usize;
-    let right = head_right(count, p, slots, n);
-    if !right {
+    if !head_right(count, p, slots, usize::from(entries)) {
         return verdict_of(12, 0);
     }
     let whole = call_log::length_of(entries);
@@ -152,5 +141,5 @@ pub fn judge(log: &[u8]) -> Verdict
     if whole < log.len() {
         return verdict_of(13, 0);
     }
-    rules(log, n, p, slots)
+    rules(entries_of(log), p, slots)
 }

@@ -1,27 +1,24 @@
 // Whether rule 4 has to compare the nodes that are pushed: not where a table of marks says that they differ.
-ghost use Rattle.std.specs.Prelude.{◌≡◌, true, false, ◌≤◌};
-ghost use Rattle.call_log.specs.Decode.{entry_at};
-ghost use Rattle.judge.specs.Inner.Order.{Whole};
+ghost use Rattle.std.specs.Prelude.{◌≡◌, true, false, length};
+ghost use Rattle.judge.specs.Inner.Entries.{entries_in};
 ghost use Rattle.judge.specs.Inner.Replay.{Differ};
 
-use crate::read::entry;
+use call_log::{ENTRY_LENGTH, Entry};
 use fields::pushed;
 use marks::{MARK_BYTES, mark};
 
 // Whether the nodes of all pushes differ.
-fn differ(log: &[u8], n: usize) -> bool
-    requires { (n ≤ 256) × Whole log.now n }
-    ensures { result ≡ true → Differ (entry_at log.now) n }
+fn differ(entries: &[[u8; ENTRY_LENGTH]]) -> bool
+    ensures { result ≡ true → Differ (entries_in entries.now) (length entries.now) }
 {
-    let mut marks = [0u8; MARK_BYTES];
-    let mut i: usize = 0;
-    while i < n {
-        let e = entry(log, i);
-        i = i + 1;
-        if pushed(e) {
-            if mark(&mut marks, e.node) {
-                return false;
-            }
+    let mut marks = [0; MARK_BYTES];
+    for bytes in entries {
+        let e = Entry::from(bytes);
+        if !pushed(e) {
+            continue;
+        }
+        if mark(&mut marks, e.node) {
+            return false;
         }
     }
     true
@@ -31,12 +28,8 @@ fn differ(log: &[u8], n: usize) -> bool
 const FEW: usize = 32;
 
 // Whether the nodes are to be watched, where so many calls have a moment.
-pub(crate) fn watched(log: &[u8], n: usize, count: usize) -> bool
-    requires { (n ≤ 256) × Whole log.now n }
-    ensures { result ≡ false → Differ (entry_at log.now) n }
+pub(crate) fn watched(entries: &[[u8; ENTRY_LENGTH]], count: usize) -> bool
+    ensures { result ≡ false → Differ (entries_in entries.now) (length entries.now) }
 {
-    if count <= FEW {
-        return true;
-    }
-    !differ(log, n)
+    count <= FEW || !differ(entries)
 }

@@ -1,25 +1,25 @@
--- `judge::moment_rules_in` meets its contract. Each answer is the first rule that an entry breaks, all earlier rules having passed.
+-- `judge::moment_rules_in` meets its contract: what `last_rules` asks is what the earlier rules, having passed, say.
 use native.Mathlib.Omega.{arith}
-use Rattle.call_log.specs.Decode.{entry_at}
+use lib.ListN.{length}
 use Rattle.rules.proofs.KeptLaws.{moments_of}
-use Rattle.rules.proofs.VerdictLaws.{pass}
+use Rattle.judge.specs.Inner.Entries.{entries_in}
+use Rattle.judge.proofs.KeyLaws.{ordered_part}
 use Rattle.judge.proofs.moment_rules_in.Goals as goal
 
-pub last_rules-requires : goal.last_rules-requires
-last_rules-requires c =
-    let a = c.args in
-    let p = c.requires in
-    let kept3 = pass _ _ _ c.by_moment-sorted.ensures.0 c.if-j3-n.false in
-    let kept4 = pass _ _ _ c.first_unlawful-j4.ensures c.if-j4-n.false in (
-      record {
-        small = omega (arith, p.3.fits, p.3.small);
-        fields = p.0;
-        moments = moments_of (entry_at a.log.now) a.n kept3;
-        ordered = c.by_moment-sorted.ensures.1 c.if-j3-n.false;
-        ends = λ i j u v. (p.1 i j u v).ends_rise;
-      },
-      p.2,
-      omega (arith, p.3.keyed),
-      (kept3, kept4),
-      c.by_moment-sorted.ensures.2 c.if-j3-n.false,
-    )
+pub first_unlawful-requires-clause-ordered : goal.first_unlawful-requires-clause-ordered
+first_unlawful-requires-clause-ordered g c =
+    let p = c.in-Ok.ensures.kept in
+    ordered_part (entries_in c.args.entries.now) (length c.args.entries.now) c.by_moment.new.keys c.in-Ok.sorted.count p.1 (omega (arith, p.1.few, c.requires.roomy.0))
+
+pub last_rules-requires-clause-clean : goal.last_rules-requires-clause-clean
+last_rules-requires-clause-clean g c =
+    let p = c.in-Ok.ensures.kept in
+    let f = entries_in c.args.entries.now in
+    let n = length c.args.entries.now in
+    record {
+      small = omega (arith, c.requires.roomy.0, c.requires.roomy.1);
+      fields = c.requires.fields;
+      moments = moments_of f n p.0;
+      ordered = ordered_part f n c.by_moment.new.keys c.in-Ok.sorted.count p.1 (omega (arith, p.1.few, c.requires.roomy.0));
+      ends = λ i j u v. (c.requires.ends i j u v).ends_rise;
+    }

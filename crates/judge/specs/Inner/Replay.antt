@@ -1,5 +1,5 @@
 -- A queue's nodes between two places of a row, and the nodes that were pushed.
-use Rattle.std.specs.Prelude.{◌≡◌, Bool, true, not, List, ℕ, ◌+◌, ◌*◌, ◌≤◌, ◌<◌, eqb, length, get_or}
+use Rattle.std.specs.Prelude.{◌≡◌, Bool, true, not, List, ℕ, ◌+◌, ◌<◌, eqb, get_or}
 use Rattle.std.proofs.Math.Seq.{slice}
 use Rattle.call_log.specs.declared.Entry.{Entry}
 use Rattle.call_log.specs.declared.What.TheVariants.{Pushed}
@@ -17,10 +17,3 @@ new_in nodes from c v = not (any (λ i. eqb (get_or nodes (from + i) 0) v) c)
 -- no two pushes of a log are of one node
 abbrev pub Differ : (ℕ → Entry) → ℕ → Type 0
 Differ f n = (i j : ℕ) → i < n → j < n → same Pushed (what (f i)) ≡ true → same Pushed (what (f j)) ≡ true → (f i).node ≡ (f j).node → i ≡ j
-
--- arrays with room for n entries: the nodes of eight queues lie in rows of this width, queue q's from width × q on, and after them all that were pushed
-pub record Roomy (n width : ℕ) (keys nodes : List ℕ) : Type 0 where
-  pub fits : n ≤ width
-  pub keyed : n ≤ length keys
-  pub small : width ≤ 256
-  pub rows : length nodes ≡ 9 * width

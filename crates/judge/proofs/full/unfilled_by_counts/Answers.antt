@@ -5,44 +5,57 @@ use mathlib.Core.Bool.{Bool, ◌&&◌}
 use Prim.Native.Nat.{◌+◌, ◌/◌, ◌%◌}
 use native.Mathlib.Omega.{arith}
 use lib.Dec.{ltb}
-use lib.ListN.{get_or}
-use Rattle.call_log.specs.Decode.{entry_at}
-use Rattle.rules.proofs.SearchLaws.{first_next, first_found}
+use lib.ListN.{length, get_or}
+use Rattle.judge.specs.Inner.Entries.{entries_in}
+use Rattle.rules.proofs.SearchLaws.{first_start, first_next}
 use Rattle.rules.specs.Rules.{breaks6}
-use Rattle.judge.proofs.FullLaws.{told}
+use Rattle.judge.proofs.EntriesLaws.{pass_found, pass_ended}
+use Rattle.judge.proofs.FullLaws.{counted_start, told}
 use Rattle.judge.proofs.full.unfilled_by_counts.Goals as goal
+
+pub loop-j-init : goal.loop-j-init
+loop-j-init c =
+    let f = entries_in c.args.entries.now in
+    (first_start (breaks6 f c.args.slots) (length c.args.entries.now), counted_start f)
 
 pub returns-then-full-there : goal.returns-then-full-there
 returns-then-full-there c =
     let a = c.args in
     let l = c.loop-j in
-    let f = entry_at a.log.now in
+    let f = entries_in a.entries.now in
+    let n = length a.entries.now in
     let below = c.loop-j-test.true in
-    let e = c.entry-e.result in
-    let t = told f a.n c.requires.0 c.requires.1 l.j below l.counts l.invariant.2 a.slots e c.entry-e.ensures in
+    let e = c.from-e.result in
+    let t = told f n c.requires.few c.requires.fields l.j below l.counts l.invariant.1 a.slots e c.from-e.ensures in
     let there = get_or l.counts e.queue 0 in
     let broken = ap (λ (b : Bool). b && ltb (there / 65536) (a.slots + there % 65536)) c.full.ensures ∙ t.breaks in
-    first_found (breaks6 f a.slots) l.j a.n below (sym broken ∙ c.if-full-there.true) ∙ l.invariant.1
+    pass_found (breaks6 f a.slots) l.j n l.invariant.0 below (sym broken ∙ (simp (c.from-q.ensures, c.from.ensures) at c.if-full-there.true))
 
 pub counts_after-requires : goal.counts_after-requires
 counts_after-requires c =
     let a = c.args in
     let l = c.loop-j in
-    let t = told (entry_at a.log.now) a.n c.requires.0 c.requires.1 l.j c.loop-j-test.true l.counts l.invariant.2 a.slots c.entry-e.result
-    c.entry-e.ensures in
-    omega (arith, t.low)
+    let t = told (entries_in a.entries.now) (length a.entries.now) c.requires.few c.requires.fields l.j c.loop-j-test.true l.counts l.invariant.1 a.slots
+    c.from-e.result c.from-e.ensures in
+    rw c.from-q.ensures (omega (arith, t.low))
 
 pub loop-j-preserved : goal.loop-j-preserved
 loop-j-preserved c =
     let a = c.args in
     let l = c.loop-j in
-    let f = entry_at a.log.now in
+    let f = entries_in a.entries.now in
+    let n = length a.entries.now in
     let below = c.loop-j-test.true in
-    let e = c.entry-e.result in
-    let t = told f a.n c.requires.0 c.requires.1 l.j below l.counts l.invariant.2 a.slots e c.entry-e.ensures in
+    let e = c.from-e.result in
+    let t = told f n c.requires.few c.requires.fields l.j below l.counts l.invariant.1 a.slots e c.from-e.ensures in
     let there = get_or l.counts e.queue 0 in
-    let broken = ap (λ (b : Bool). b && ltb (there / 65536) (a.slots + there % 65536)) c.full.ensures ∙ t.breaks in (
-      omega (arith, below),
-      first_next (breaks6 f a.slots) l.j a.n below (sym broken ∙ c.if-full-there.false) ∙ l.invariant.1,
-      rw c.counts_after.ensures t.turn,
+    let broken = ap (λ (b : Bool). b && ltb (there / 65536) (a.slots + there % 65536)) c.full.ensures ∙ t.breaks in
+    let none = simp (c.from-q.ensures, c.from.ensures) at c.if-full-there.false in (
+      first_next (breaks6 f a.slots) l.j n below (sym broken ∙ none) ∙ l.invariant.0,
+      rw (c.counts_after.ensures, c.from-q.ensures) t.turn,
     )
+
+pub returns : goal.returns
+returns c =
+    let l = c.loop-j in
+    pass_ended (breaks6 (entries_in c.args.entries.now) c.args.slots) l.j (length c.args.entries.now) l.invariant.0 c.loop-j-test.false

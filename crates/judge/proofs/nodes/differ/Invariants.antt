@@ -1,11 +1,7 @@
 -- `judge::nodes::differ` meets its contract. The loop keeps `Marked`: the nodes of the pushes passed are marked, and differ.
-use Prim.Native.Nat.{◌-◌, ◌≤◌}
-use Rattle.call_log.specs.Decode.{entry_at}
+use Rattle.judge.specs.Inner.Entries.{entries_in}
 use Rattle.judge.proofs.NodeLaws.{Marked}
 use Rattle.judge.proofs.nodes.differ.Given as goal
 
-abbrev pub invariant-loop-i : goal.invariant-loop-i
-invariant-loop-i l = (l.i ≤ l.n) × Marked (entry_at l.log) l.i l.marks
-
-abbrev pub decreases-loop-i : goal.decreases-loop-i
-decreases-loop-i l = l.n - l.i
+abbrev pub invariant-loop-bytes : goal.invariant-loop-bytes
+invariant-loop-bytes l = Marked (entries_in l.entries) l.bytes-index l.marks

@@ -1,27 +1,38 @@
 -- `judge::replay::first_unlawful` meets its contract. The loop keeps `Replayed`: after the first k moments each row holds what its queue held, and no
 -- call was unlawful.
-use mathlib.Core.Path.{sym, ◌∙◌}
+use mathlib.Core.Path.{◌≡◌, sym, ◌∙◌}
+use mathlib.Core.Bool.{Bool, true, false, cond}
+use Prim.Native.Nat.{ℕ, ◌+◌}
+use mir.Val.{bool_byte}
 use native.Mathlib.Omega.{arith}
-use borrow.Author.Rules.{rules}
-use Rattle.call_log.specs.Decode.{entry_at}
+use lib.ListN.{length}
+use Rattle.rules.specs.Judge.{first4}
+use Rattle.judge.specs.Inner.Entries.{entries_in}
+use Rattle.judge.proofs.EntriesLaws.{some_is, none_is}
 use Rattle.judge.proofs.ReplayLaws.{worst_is, none_worst}
 use Rattle.judge.proofs.RowLaws.{replay_start, told, wrong_is, added_low}
 use Rattle.judge.proofs.replay.first_unlawful.Goals as goal
 
-pub loop-k-init : goal.loop-k-init
-loop-k-init c =
+-- a truth value added to a count
+one_more : (b : Bool) (c x : ℕ) → x ≡ bool_byte b → c + x ≡ cond b (c + 1) c
+one_more true c x e = omega (arith, e)
+one_more false c x e = omega (arith, e)
+
+pub loop-key-init : goal.loop-key-init
+loop-key-init c =
     let a = c.args in
     let p = c.requires in
-    (search rules, replay_start a.watch (entry_at a.log.now) a.n a.keys.now a.width a.nodes.now p.4 p.3.rows)
+    replay_start a.watch (entries_in a.entries.now) (length a.entries.now) a.keys.now a.width a.nodes.now p.differ p.roomy.2
 
 pub lawful-requires : goal.lawful-requires
 lawful-requires c =
     let p = c.requires in
-    let s = c.loop-k.invariant.1 in
-    let below = c.loop-k-test.true in
-    let t = told _ _ _ _ p.1 _ below _ _ _ _ _ s p.3.fits p.3.small p.0 _ c.entry-e.ensures in
-    let few = added_low _ _ _ _ p.1 _ below _ _ _ _ _ s p.3.fits p.3.small p.0 in
-    let narrow = p.3.small in (
+    let s = c.loop-key.invariant in
+    let below = c.loop-key-test.true in
+    let t = told _ _ _ _ p.ordered _ below _ _ _ _ _ s p.roomy.0 p.roomy.1 p.fields _ c.from-e.ensures in
+    let few = added_low _ _ _ _ p.ordered _ below _ _ _ _ _ s p.roomy.0 p.roomy.1 p.fields in
+    let narrow = p.roomy.1 in
+    rw c.from-q.ensures (
       omega (arith, t.high, s.nodes_long),
       omega (arith, t.high, t.few, narrow),
       omega (arith, few, s.nodes_long),
@@ -31,31 +42,36 @@ lawful-requires c =
 pub returns-then-not-lawful : goal.returns-then-not-lawful
 returns-then-not-lawful c =
     let p = c.requires in
-    let s = c.loop-k.invariant.1 in
-    let below = c.loop-k-test.true in
-    let t = told _ _ _ _ p.1 _ below _ _ _ _ _ s p.3.fits p.3.small p.0 _ c.entry-e.ensures in
-    let wrong = wrong_is _ _ _ _ p.1 _ below _ _ _ _ _ s p.3.fits p.3.small p.0 (sym (c.lawful.ensures ∙ t.ok) ∙ c.if-not-lawful.true) in
-    worst_is _ _ _ _ p.1 _ below wrong s.fine
+    let s = c.loop-key.invariant in
+    let below = c.loop-key-test.true in
+    let t = told _ _ _ _ p.ordered _ below _ _ _ _ _ s p.roomy.0 p.roomy.1 p.fields _ c.from-e.ensures in
+    let wrong = wrong_is _ _ _ _ p.ordered _ below _ _ _ _ _ s p.roomy.0 p.roomy.1 p.fields
+    (sym ((rw c.from-q.ensures at c.lawful.ensures) ∙ t.ok) ∙ c.if-not-lawful.true) in
+    some_is (length c.args.entries.now) (first4 (entries_in c.args.entries.now) (length c.args.entries.now)) _ (worst_is _ _ _ _ p.ordered _ below wrong s.fine)
+    (p.ordered.index _ below)
 
 pub bounds-nodes-row : goal.bounds-nodes-row
 bounds-nodes-row c =
     let p = c.requires in
-    let s = c.loop-k.invariant.1 in
-    let t = told _ _ _ _ p.1 _ c.loop-k-test.true _ _ _ _ _ s p.3.fits p.3.small p.0 _ c.entry-e.ensures in
-    omega (arith, t.high, s.nodes_long)
+    let s = c.loop-key.invariant in
+    let t = told _ _ _ _ p.ordered _ c.loop-key-test.true _ _ _ _ _ s p.roomy.0 p.roomy.1 p.fields _ c.from-e.ensures in
+    rw c.from-q.ensures (omega (arith, t.high, s.nodes_long))
 
-pub loop-k-preserved : goal.loop-k-preserved
-loop-k-preserved c =
+pub loop-key-preserved : goal.loop-key-preserved
+loop-key-preserved c =
     let p = c.requires in
-    let s = c.loop-k.invariant.1 in
-    let below = c.loop-k-test.true in
-    let t = told _ _ _ _ p.1 _ below _ _ _ _ _ s p.3.fits p.3.small p.0 _ c.entry-e.ensures in (
-      omega (arith, below),
-      rw (c.choose-c.ensures, c.pushed.ensures, c.moved.ensures) (t.turn (sym (c.lawful.ensures ∙ t.ok) ∙ c.if-not-lawful.false)),
-    )
+    let s = c.loop-key.invariant in
+    let below = c.loop-key-test.true in
+    let t = told _ _ _ _ p.ordered _ below _ _ _ _ _ s p.roomy.0 p.roomy.1 p.fields _ c.from-e.ensures in
+    let fine = sym ((rw c.from-q.ensures at c.lawful.ensures) ∙ t.ok) ∙ c.if-not-lawful.false in
+    rw (one_more _ c.loop-key.c _ c.from-c.ensures, c.pushed.ensures, c.moved.ensures, c.from-q.ensures) (t.turn fine)
 
 pub returns : goal.returns
 returns c =
     let a = c.args in
-    let l = c.loop-k in
-    none_worst (entry_at a.log.now) a.n a.keys.now a.count c.requires.1 (λ x u. l.invariant.1.fine x (omega (arith, c.loop-k-test.false)))
+    let l = c.loop-key in
+    let n = length a.entries.now in
+    none_is n (first4 (entries_in a.entries.now) n) (omega (
+      arith,
+      none_worst (entries_in a.entries.now) n a.keys.now (length a.keys.now) c.requires.ordered (λ x u. l.invariant.fine x (omega (arith, c.loop-key-test.false))),
+    ))
