@@ -38,7 +38,7 @@ pub struct PackedWord {
     pub age: PackedAge,
 }
 
-// A step on a word of type W: the word that it leaves, its store if it makes one, and whether it is a reset.
+// A step on a word of type W: the word that it leaves, its store if it makes one, whether it is a reset, and what follows.
 #[derive(Clone, Copy)]
 pub struct Step<W> {
     pub word: W,
