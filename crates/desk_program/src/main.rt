@@ -21,12 +21,14 @@ enum Typed<'a> {
     End,
 }
 
-// A line of so many bytes, of which those that there was room for are in the buffer.
-fn typed(buffer: &[u8], length: usize) -> Typed<'_> {
-    if length <= buffer.len() {
-        Typed::Line(&buffer[..length])
-    } else {
-        Typed::TooLong
+impl<'a> Typed<'a> {
+    // A line of so many bytes, of which those that there was room for are in the buffer.
+    fn of(buffer: &'a [u8], length: usize) -> Typed<'a> {
+        if length <= buffer.len() {
+            Typed::Line(&buffer[..length])
+        } else {
+            Typed::TooLong
+        }
     }
 }
 
@@ -39,7 +41,7 @@ fn read_line<'a, R: Read>(rt: &impl Eprint, from: &mut R, buffer: &'a mut [u8]) 
         match stdio::read(rt, from, &mut byte) {
             None => break,
             Some(0) if length == 0 => break,
-            Some(n) if n == 0 || byte == [b'\n'] => return typed(buffer, length),
+            Some(n) if n == 0 || byte == [b'\n'] => return Typed::of(buffer, length),
             Some(_) => {}
         }
         if length < buffer.len() {

@@ -1,6 +1,6 @@
 -- A stage as it is printed, in the words in which it is typed: its name, and each number after a space. It is read back as that stage.
-use Prim.Native.Nat.{ℕ, zero, suc, ◌+◌, ◌*◌, ◌-◌, ◌/◌, ◌%◌, ◌<◌}
-use mathlib.Core.Path.{◌≡◌, refl, ap, ◌∙◌}
+use Prim.Native.Nat.{ℕ, zero, suc, ◌+◌, ◌*◌, ◌-◌, ◌/◌, ◌%◌, ◌<◌, ◌≤◌}
+use mathlib.Core.Path.{◌≡◌, refl, sym, ap, ◌∙◌}
 use mathlib.Core.Bool.{true, false, cond}
 use mathlib.Core.List.{List, [], ◌∷◌, ◌++◌}
 use native.Mathlib.Omega.{arith}
@@ -8,10 +8,13 @@ use lib.Dec.{ltb}
 use lib.ListN.{get_or, drop}
 use Prim.Native.String.{String}
 use borrow.Author.Tests.{le-ltb, ne_eqb}
+use Rattle.word.specs.Shown.{shown}
 use Rattle.word.specs.Stages.{listed, row_number}
 use Rattle.word.specs.declared.Stage.{Stage}
 use Rattle.word.specs.declared.Stage.TheVariants.{Idle, P1, P2, P3, T1, T2, T3, T4, B1, B2, B3, B4, B5, B6, B7}
-use Rattle.std.specs.Prelude.{Option, Some, Ok}
+use Rattle.std.specs.Prelude.{Option, Some, Ok, codes, decimal}
+use Rattle.std.proofs.lemmas.Fmt.{decimal_digit, decimal_step}
+use Rattle.std.proofs.Common.{append-nil, append_assoc}
 use Rattle.words.specs.declared.Words.{Words}
 use Rattle.base.proofs.Cases.{if_lt}
 use Rattle.words.specs.Words.{blank, counted, fed, ended, words_of}
@@ -183,3 +186,69 @@ read_back (T4 a b c d) h = ap line_in (four (spelt (T4 a b c d)) a h.0 b h.1.0 c
 read_back (B5 a b c d) h = ap line_in (four (spelt (B5 a b c d)) a h.0 b h.1.0 c h.1.1.0 d h.1.1.1.0)
 read_back (B6 a b c d) h = ap line_in (four (spelt (B6 a b c d)) a h.0 b h.1.0 c h.1.1.0 d h.1.1.1.0)
 read_back (B7 a b c d) h = ap line_in (four (spelt (B7 a b c d)) a h.0 b h.1.0 c h.1.1.0 d h.1.1.1.0)
+
+-- a number as the program prints it
+more_digits : (k n : ℕ) → 10 ≤ n → n < 65536 → decimal (n / 10) ≡ digits k (n / 10) → decimal n ≡ digits (suc k) n
+more_digits k n h l e = decimal_step n h (omega arith) ∙ ap (λ (s : List ℕ). s ++ ((48 + n % 10) ∷ [])) e
+
+digits_1 : (n : ℕ) → n < 10 → decimal n ≡ digits 1 n
+digits_1 n h = let e : n % 10 ≡ n = omega arith in decimal_digit n h ∙ rw e
+
+digits_2 : (n : ℕ) → 10 ≤ n → n < 100 → decimal n ≡ digits 2 n
+digits_2 n h l = more_digits 1 n h (omega arith) (digits_1 (n / 10) (omega arith))
+
+digits_3 : (n : ℕ) → 100 ≤ n → n < 1000 → decimal n ≡ digits 3 n
+digits_3 n h l = more_digits 2 n (omega arith) (omega arith) (digits_2 (n / 10) (omega arith) (omega arith))
+
+digits_4 : (n : ℕ) → 1000 ≤ n → n < 10000 → decimal n ≡ digits 4 n
+digits_4 n h l = more_digits 3 n (omega arith) (omega arith) (digits_3 (n / 10) (omega arith) (omega arith))
+
+printed_number : (n : ℕ) → n < 65536 → decimal n ≡ digits (places n) n
+printed_number n h =
+    if_lt Q n 10 (digits_1 n) (λ a. if_lt Q n 100 (digits_2 n a) (λ b. if_lt Q n 1000 (digits_3 n b)
+    (λ c. if_lt Q n 10000 (digits_4 n c)
+    (λ d. more_digits 4 n (omega arith) h (digits_4 (n / 10) (omega arith) (omega arith))))))
+  where
+    Q : ℕ → Type 0
+    Q k = decimal n ≡ digits k n
+
+last : (n : ℕ) → n < 65536 → decimal n ≡ digits (places n) n ++ []
+last n h = printed_number n h ∙ sym (append-nil _)
+
+then : (n : ℕ) → n < 65536 → (s t : List ℕ) → s ≡ t → decimal n ++ (codes " " ++ s) ≡ digits (places n) n ++ (32 ∷ t)
+then n h s t e = ap (λ (d : List ℕ). d ++ (32 ∷ s)) (printed_number n h) ∙ ap (λ (u : List ℕ). digits (places n) n ++ (32 ∷ u)) e
+
+two_numbers : (a b : ℕ) → a < 65536 → b < 65536
+    → decimal a ++ (codes " " ++ decimal b) ≡ digits (places a) a ++ (32 ∷ (digits (places b) b ++ []))
+two_numbers a b h k = then a h _ _ (last b k)
+
+three_numbers : (a b c : ℕ) → a < 65536 → b < 65536 → c < 65536
+    → decimal a ++ (codes " " ++ (decimal b ++ (codes " " ++ decimal c)))
+    ≡ digits (places a) a ++ (32 ∷ (digits (places b) b ++ (32 ∷ (digits (places c) c ++ []))))
+three_numbers a b c h k l = then a h _ _ (two_numbers b c k l)
+
+four_numbers : (a b c d : ℕ) → a < 65536 → b < 65536 → c < 65536 → d < 65536
+    → decimal a ++ (codes " " ++ (decimal b ++ (codes " " ++ (decimal c ++ (codes " " ++ decimal d)))))
+    ≡ digits (places a) a ++ (32 ∷ (digits (places b) b ++ (32 ∷ (digits (places c) c ++ (32 ∷ (digits (places d) d ++ []))))))
+four_numbers a b c d h k l m = then a h _ _ (three_numbers b c d k l m)
+
+-- a stage as the program prints it
+shown_printed : (s : Stage) → All Two (numbers_of s) → shown s ≡ printed s
+shown_printed Idle h = refl
+shown_printed T1 h = refl
+shown_printed B1 h = refl
+shown_printed (P1 a) h = ap (λ (s : List ℕ). codes "P1 " ++ s) (last a h.0)
+shown_printed (P3 a) h = ap (λ (s : List ℕ). codes "P3 " ++ s) (last a h.0)
+shown_printed (B2 a) h = ap (λ (s : List ℕ). codes "B2 " ++ s) (last a h.0)
+shown_printed (B3 a) h = ap (λ (s : List ℕ). codes "B3 " ++ s) (last a h.0)
+shown_printed (P2 a b) h = simp append_assoc (ap (λ (s : List ℕ). codes "P2 " ++ s) (two_numbers a b h.0 h.1.0))
+shown_printed (T2 a b) h = simp append_assoc (ap (λ (s : List ℕ). codes "T2 " ++ s) (two_numbers a b h.0 h.1.0))
+shown_printed (B4 a b) h = simp append_assoc (ap (λ (s : List ℕ). codes "B4 " ++ s) (two_numbers a b h.0 h.1.0))
+shown_printed (T3 a b c) h = simp append_assoc (ap (λ (s : List ℕ). codes "T3 " ++ s) (three_numbers a b c h.0 h.1.0 h.1.1.0))
+shown_printed (T4 a b c d) h = simp append_assoc (ap (λ (s : List ℕ). codes "T4 " ++ s) (four_numbers a b c d h.0 h.1.0 h.1.1.0 h.1.1.1.0))
+shown_printed (B5 a b c d) h = simp append_assoc (ap (λ (s : List ℕ). codes "B5 " ++ s) (four_numbers a b c d h.0 h.1.0 h.1.1.0 h.1.1.1.0))
+shown_printed (B6 a b c d) h = simp append_assoc (ap (λ (s : List ℕ). codes "B6 " ++ s) (four_numbers a b c d h.0 h.1.0 h.1.1.0 h.1.1.1.0))
+shown_printed (B7 a b c d) h = simp append_assoc (ap (λ (s : List ℕ). codes "B7 " ++ s) (four_numbers a b c d h.0 h.1.0 h.1.1.0 h.1.1.1.0))
+
+pub shown_back : (s : Stage) → All Two (numbers_of s) → line_of (shown s) ≡ Ok s
+shown_back s h = ap line_of (shown_printed s h) ∙ read_back s h

@@ -6,6 +6,7 @@ ghost use Rattle.words.specs.Words.{blank, spelled, counted, word_at, fed, start
 
 // What is known of a line's words so far: whether its last byte is in a word, how many have begun (6 for more), the name that the first spells,
 // and the four after it as numbers: none where a word is no number from 0 to 65,535, and 0 where no word has begun.
+// The name is kept as one number: a buffer of letters would need its length beside it, and without a heap a limit.
 #[derive(Clone, Copy)]
 pub struct Words {
     pub inside: bool,
