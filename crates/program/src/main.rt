@@ -72,10 +72,7 @@ fn asked(rt: &HostRuntime, word: &[u8]) {
 
 // Whether the command has a word i. Word 0 is its name.
 fn has_word(rt: &impl Env, i: usize) -> bool {
-    match rt.arg(i, &mut []) {
-        Err(FillError::NotPresent) => false,
-        _ => true,
-    }
+    !matches!(rt.arg(i, &mut []), Err(FillError::NotPresent))
 }
 
 fn main(rt: HostRuntime) {

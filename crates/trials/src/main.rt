@@ -24,15 +24,21 @@ enum Stands {
     Bytes,
 }
 
-// What is known of a line so far; and of the number that is being read, its sign, if one was begun, and its value.
+// A number among the bytes: its sign, or its first digit where it has none, and its value so far.
+#[derive(Clone, Copy)]
+struct Number {
+    sign: u8,
+    value: u16,
+}
+
+// What is known of a line so far, and the number that is being read, if one was begun.
 #[derive(Clone, Copy)]
 struct Case {
     stands: Stands,
     letter: u8,
     length: u16,
     room: u16,
-    sign: Option<u8>,
-    value: u16,
+    number: Option<Number>,
 }
 
 // The number with one more digit, where there is room for it.
@@ -44,12 +50,6 @@ fn longer(value: u16, digit: u8) -> u16 {
     }
 }
 
-fn put(file: &mut [u8; FILE_BYTES], n: u16, byte: u8) {
-    if let Some(place) = file.get_mut(usize::from(n)) {
-        *place = byte;
-    }
-}
-
 impl Case {
     fn fresh() -> Case {
         Case {
@@ -57,32 +57,34 @@ impl Case {
             letter: 0,
             length: 0,
             room: call_log::LONGEST_LOG as u16,
-            sign: None,
-            value: 0,
+            number: None,
         }
     }
 
     // A sign begins a number, and a digit begins it or goes on with it.
     fn number_goes_on(&mut self, c: u8) {
-        if c < b'0' || self.sign.is_none() {
-            self.sign = Some(c);
-        }
-        self.value = longer(self.value, c);
+        let begun = self.number.unwrap_or(Number { sign: c, value: 0 });
+        self.number = Some(Number {
+            sign: if c < b'0' { c } else { begun.sign },
+            value: longer(begun.value, c),
+        });
     }
 
     // What a number says: the length of the buffer, so many bytes 0, or a byte.
     fn number_ends(&mut self, file: &mut [u8; FILE_BYTES]) {
-        match self.sign {
-            None => {}
-            Some(b'=') => self.room = self.value,
-            Some(b'+') => self.length = self.length.wrapping_add(self.value),
-            Some(_) => {
-                put(file, self.length, base::low(self.value));
+        let Some(Number { sign, value }) = self.number.take() else {
+            return;
+        };
+        match sign {
+            b'=' => self.room = value,
+            b'+' => self.length = self.length.wrapping_add(value),
+            _ => {
+                if let Some(place) = file.get_mut(usize::from(self.length)) {
+                    *place = base::low(value);
+                }
                 self.length = self.length.wrapping_add(1);
             }
         }
-        self.sign = None;
-        self.value = 0;
     }
 
     // Tries the case that a line said.
