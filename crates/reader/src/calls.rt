@@ -15,7 +15,7 @@ fn wrong_call(
     k: u16,
     marks: &mut [u8; MARK_BYTES],
 ) -> Result<(), Refusal>
-    requires marks { Marks marks.old (first_calls file.now processes k) }
+    requires { Marks marks.old (first_calls file.now processes k) }
     ensures value { number_in result ≡ wrong_at file.now processes k }
     ensures marks_after { number_in result ≡ 0 → Marks marks.new (first_calls file.now processes (k + 1)) }
 {

@@ -16,7 +16,7 @@ returns-else-mark-clause-marks_after c z =
     let a = c.args in
     let e = sym c.coded_at.ensures ∙ c.in_ok-node.was ∙ ap Ok c.in-Push.is in
     let below : c.in-Push.node < 65536 = omega arith in
-    rw c.mark.ensures.1 (after_push a.file.now a.processes a.k a.marks.now c.requires.marks c.in-Push.node below e)
+    rw c.mark.ensures.1 (after_push a.file.now a.processes a.k a.marks.now c.requires c.in-Push.node below e)
 
 pushes_none : {call : Call} → (call ≡ Pop) ⊎ ((queue : ℕ) × call ≡ Take queue) → (node : ℕ) → pushes node call ≡ false
 pushes_none (inl e) node = rw e
@@ -25,4 +25,4 @@ pushes_none (inr e) node = rw e.1
 pub returns-in-Pop-clause-marks_after : goal.returns-in-Pop-clause-marks_after
 returns-in-Pop-clause-marks_after c z =
     let a = c.args in
-    after_other a.file.now a.processes a.k a.marks.now c.requires.marks _ (sym c.coded_at.ensures ∙ c.in_ok-node.was) (pushes_none c.in-Pop.is)
+    after_other a.file.now a.processes a.k a.marks.now c.requires _ (sym c.coded_at.ensures ∙ c.in_ok-node.was) (pushes_none c.in-Pop.is)
