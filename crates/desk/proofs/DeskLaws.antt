@@ -3,6 +3,7 @@ use mathlib.Core.Path.{◌≡◌, refl, sym, ap, ◌∙◌}
 use mathlib.Core.Bool.{Bool, true, false, cond, true≢false}
 use mathlib.Core.List.{List}
 use Rattle.std.specs.Prelude.{Ok, Err}
+use Rattle.std.proofs.lemmas.Bool.{false_from_ne_true}
 use Prim.Native.Nat.{ℕ, ◌^◌, ◌≤◌, ◌<◌}
 use native.Mathlib.Decide.{dec_lt}
 use native.Mathlib.Omega.{arith}
@@ -91,10 +92,6 @@ fine W C (B5 b x t g) h = omega arith
 fine W C (B6 b x t g) h = omega arith
 fine W C (B7 b x t g) h = omega arith
 
-by_absurdity : (t : Bool) → (t ≡ true → ⊥) → t ≡ false
-by_absurdity true h = absurd (h refl)
-by_absurdity false h = refl
-
 module _ (W C n : ℕ) (w : Word) (s : Stage) where
   out : Refuses W C n w s → InRange W C n w s → ⊥
   out (width_high h) k = omega (arith, k.sizes.width_high)
@@ -113,7 +110,7 @@ module _ (W C n : ℕ) (w : Word) (s : Stage) where
 
   -- what is on the list is out of range
   pub refuses_out : Refuses W C n w s → in_range W C n w s ≡ false
-  refuses_out h = by_absurdity (in_range W C n w s) (λ e. out h (in_range_lem W C n w s e))
+  refuses_out h = false_from_ne_true (in_range W C n w s) (λ e. out h (in_range_lem W C n w s e))
 
 -- two numbers stand one way or the other
 module _ {R : Type 0} (a b : ℕ) where
@@ -187,7 +184,7 @@ module _ (W C : ℕ) (w : Word) (slots : List ℕ) (s : Stage) (answer : Answer)
   refuses_10 r = h.numbered ∙ ap (λ (t : Bool). cond t 0 10) (refuses_out W C (length slots) w s r)
 
   pub 10_refuses : number_of answer ≡ 10 → Refuses W C (length slots) w s
-  10_refuses e = out_refuses W C (length slots) w s (by_absurdity (in_range W C (length slots) w s) (λ r. not_10 (given_0 r ∙ e)))
+  10_refuses e = out_refuses W C (length slots) w s (false_from_ne_true (in_range W C (length slots) w s) (λ r. not_10 (given_0 r ∙ e)))
     where
       given_0 : in_range W C (length slots) w s ≡ true → 0 ≡ number_of answer
       given_0 r = sym (h.numbered ∙ ap (λ (t : Bool). cond t 0 10) r)

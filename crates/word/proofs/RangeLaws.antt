@@ -1,6 +1,7 @@
 -- `in_range` as facts on numbers, and back: what proofs use in place of the tests.
 use mathlib.Core.Path.{◌≡◌, refl}
-use mathlib.Core.Bool.{Bool, true, ◌&&◌, and-eq-true_iff}
+use mathlib.Core.Bool.{true, ◌&&◌}
+use Rattle.std.proofs.lemmas.Bool.{and_parts, and_from}
 use Prim.Native.Nat.{ℕ, ◌^◌, ◌≤◌, ◌<◌}
 use borrow.Author.Tests.{ltb-true, leb-true, eqb-true, lt-ltb, le-leb, eq-eqb}
 use Rattle.word.specs.Range.{sizes_in, age_in, take_in, pop_in, stage_in, in_range}
@@ -9,18 +10,12 @@ use Rattle.word.specs.declared.Word.{Word}
 use Rattle.word.specs.declared.Stage.{Stage}
 use Rattle.word.specs.declared.Stage.TheVariants.{Idle, P1, P2, P3, T1, T2, T3, T4, B1, B2, B3, B4, B5, B6, B7}
 
-parts : {a b : Bool} → (a && b) ≡ true → (a ≡ true) × (b ≡ true)
-parts {a} {b} = (and-eq-true_iff a b).0
-
-joined : {a b : Bool} → a ≡ true → b ≡ true → (a && b) ≡ true
-joined {a} {b} p q = (and-eq-true_iff a b).1 (p, q)
-
 module _ (W C : ℕ) where
   sizes_in_lem : (slots : ℕ) → sizes_in W C slots ≡ true → SizesIn W C slots
   sizes_in_lem slots e =
-      let d = parts e in
-      let c = parts d.0 in
-      let b = parts c.0 in
+      let d = and_parts _ _ e in
+      let c = and_parts _ _ d.0 in
+      let b = and_parts _ _ c.0 in
       record {
         width_high = leb-true W 16 b.0;
         size_low = leb-true 1 C b.1;
@@ -30,39 +25,39 @@ module _ (W C : ℕ) where
 
   in_sizes : (slots : ℕ) → SizesIn W C slots → sizes_in W C slots ≡ true
   in_sizes slots h =
-      joined (joined (joined (le-leb W 16 h.width_high) (le-leb 1 C h.size_low)) (le-leb C 64 h.size_high)) (eq-eqb slots C h.all)
+      and_from _ _ (and_from _ _ (and_from _ _ (le-leb W 16 h.width_high) (le-leb 1 C h.size_low)) (le-leb C 64 h.size_high)) (eq-eqb slots C h.all)
 
   age_in_lem : (t g : ℕ) → age_in W C t g ≡ true → (t ≤ C) × (g < 2 ^ W)
-  age_in_lem t g e = let p = parts e in (leb-true t C p.0, ltb-true g (2 ^ W) p.1)
+  age_in_lem t g e = let p = and_parts _ _ e in (leb-true t C p.0, ltb-true g (2 ^ W) p.1)
 
   in_age : (t g : ℕ) → t ≤ C → g < 2 ^ W → age_in W C t g ≡ true
-  in_age t g h k = joined (le-leb t C h) (lt-ltb g (2 ^ W) k)
+  in_age t g h k = and_from _ _ (le-leb t C h) (lt-ltb g (2 ^ W) k)
 
   pop_in_lem : (b : ℕ) → pop_in C b ≡ true → (1 ≤ b) × (b ≤ C)
-  pop_in_lem b e = let p = parts e in (leb-true 1 b p.0, leb-true b C p.1)
+  pop_in_lem b e = let p = and_parts _ _ e in (leb-true 1 b p.0, leb-true b C p.1)
 
   in_pop : (b : ℕ) → 1 ≤ b → b ≤ C → pop_in C b ≡ true
-  in_pop b h k = joined (le-leb 1 b h) (le-leb b C k)
+  in_pop b h k = and_from _ _ (le-leb 1 b h) (le-leb b C k)
 
   take_in_lem : (t g b : ℕ) → take_in W C t g b ≡ true → (t < C) × (g < 2 ^ W) × (b ≤ C)
   take_in_lem t g b e =
-      let p = parts e in
-      let q = parts p.0 in
+      let p = and_parts _ _ e in
+      let q = and_parts _ _ p.0 in
       (ltb-true t C q.0, ltb-true g (2 ^ W) q.1, leb-true b C p.1)
 
   in_take : (t g b : ℕ) → t < C → g < 2 ^ W → b ≤ C → take_in W C t g b ≡ true
-  in_take t g b h k l = joined (joined (lt-ltb t C h) (lt-ltb g (2 ^ W) k)) (le-leb b C l)
+  in_take t g b h k l = and_from _ _ (and_from _ _ (lt-ltb t C h) (lt-ltb g (2 ^ W) k)) (le-leb b C l)
 
   -- of an owner past B4
   owner_in : (b t g : ℕ) → (pop_in C b && age_in W C t g) ≡ true → (1 ≤ b) × (b ≤ C) × (t ≤ C) × (g < 2 ^ W)
   owner_in b t g e =
-      let p = parts e in
+      let p = and_parts _ _ e in
       let q = pop_in_lem b p.0 in
       let r = age_in_lem t g p.1 in
       (q.0, q.1, r.0, r.1)
 
   in_owner : (b t g : ℕ) → (1 ≤ b) × (b ≤ C) × (t ≤ C) × (g < 2 ^ W) → (pop_in C b && age_in W C t g) ≡ true
-  in_owner b t g h = joined (in_pop b h.0 h.1) (in_age t g h.2 h.3)
+  in_owner b t g h = and_from _ _ (in_pop b h.0 h.1) (in_age t g h.2 h.3)
 
   pub stage_in_lem : (s : Stage) → stage_in W C s ≡ true → StageIn W C s
   stage_in_lem Idle e = tt
@@ -100,9 +95,9 @@ module _ (W C : ℕ) where
 
   pub in_range_lem : (slots : ℕ) (w : Word) (s : Stage) → in_range W C slots w s ≡ true → InRange W C slots w s
   in_range_lem slots w s e =
-      let p = parts e in
-      let q = parts p.0 in
-      let r = parts q.1 in
+      let p = and_parts _ _ e in
+      let q = and_parts _ _ p.0 in
+      let r = and_parts _ _ q.1 in
       let age = age_in_lem w.top w.tag r.1 in
       record {
         sizes = sizes_in_lem slots q.0;
@@ -112,4 +107,5 @@ module _ (W C : ℕ) where
 
   pub range_in : (slots : ℕ) (w : Word) (s : Stage) → InRange W C slots w s → in_range W C slots w s ≡ true
   range_in slots w s h =
-      joined (joined (in_sizes slots h.sizes) (joined (le-leb w.bottom C h.word.bottom_in) (in_age w.top w.tag h.word.top_in h.word.tag_in))) (in_stage s h.stage)
+      let word = and_from _ _ (le-leb w.bottom C h.word.bottom_in) (in_age w.top w.tag h.word.top_in h.word.tag_in) in
+      and_from _ _ (and_from _ _ (in_sizes slots h.sizes) word) (in_stage s h.stage)
