@@ -54,19 +54,18 @@ pub(crate) fn walk(
         let q = queue_in(of, p);
         let on = q as usize;
         let queue = run.queues[on];
-        let stepped = step_slots(shape.width, shape.size, queue.word, slots, q, of);
+        let stepped = step_slots(shape, queue.word, slots, q, of);
         run.queues[on].word = stepped.word;
         let then = of.after(n, queue.resets, stepped);
         if !then.is_idle() {
             run.processes[at] = then;
             continue;
         }
-        let owner = run.processes[on];
         let turn = Turn {
             p,
             n,
             of,
-            owner,
+            owner: run.processes[on],
             queue,
         };
         let told = turn.tell(log, run.entries, stepped);

@@ -7,24 +7,28 @@ ghost use Rattle.runs.specs.Turn.{entries_in};
 use crate::Queue;
 use call_log::Entry;
 use records::{Process, if_so, slots_place};
+use runfile::Shape;
 use steps::{PackedStep, PackedWord};
 use word::Sizes;
 
 // The step of a queue on its part of the row of slots.
 pub(crate) fn step_slots(
-    width: u8,
-    size: u8,
+    shape: Shape,
     word: PackedWord,
     slots: &mut [u16],
     q: u8,
     of: Process,
 ) -> PackedStep
-    requires { (length slots.old ≡ all_slots) × (q < 8) × (size ≤ 64) }
-    ensures { StepsIn width size word slots.old q of.stage result slots.new }
+    requires { (length slots.old ≡ all_slots) × (q < 8) × (shape.size ≤ 64) }
+    ensures { StepsIn shape.width shape.size word slots.old q of.stage result slots.new }
 {
-    let from = slots_place(size, q);
-    let to = from + size as usize;
-    queue::step_packed(Sizes { width, size }, word, &mut slots[from..to], of.stage)
+    let from = slots_place(shape.size, q);
+    let to = from + shape.size as usize;
+    let sizes = Sizes {
+        width: shape.width,
+        size: shape.size,
+    };
+    queue::step_packed(sizes, word, &mut slots[from..to], of.stage)
 }
 
 // Puts what a step ended after the n entries of the log, and gives how many entries that is.
