@@ -2,9 +2,8 @@
 ghost use Rattle.std.specs.Prelude.{Some};
 ghost use Rattle.word.specs.Shown.{shown};
 
-use std::fmt;
-
 use crate::Stage;
+use std::fmt;
 
 impl fmt::Display for Stage {
     ghost output = { λ stage. Some (shown stage) };
