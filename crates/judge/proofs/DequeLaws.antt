@@ -11,7 +11,7 @@ use lib.Dec.{eqb, leb}
 use lib.ListN.{length, get_or, take, drop, set, length-take, drop_of_length-le}
 use lib.Seq.{slice, slice-cons, take-suc, take-suc-set, drop-append-le, length-take-le}
 use Rattle.rules.specs.Contents.{drop_last, drop_first}
-use Rattle.rules.specs.Rules.{top_is, bottom_is, is_empty}
+use Rattle.rules.specs.Rules.{bottom_is, is_empty}
 
 drop_last_snoc : (c : List ℕ) (x : ℕ) → drop_last (c ++ (x ∷ [])) ≡ c
 drop_last_snoc [] x = refl
@@ -58,9 +58,6 @@ module _ (l : List ℕ) (lo hi : ℕ) where
   pub content_top : lo < hi → hi ≤ length l → slice (lo + 1) hi l ≡ drop_first (slice lo hi l)
   content_top h k = rw (add-one, slice-cons lo hi l 0 h k)
 
-  pub content_first : (v : ℕ) → lo < hi → hi ≤ length l → eqb (get_or l lo 0) v ≡ top_is v (slice lo hi l)
-  content_first v h k = rw (slice-cons lo hi l 0 h k)
-
   pub content_empty : hi ≤ length l → leb hi lo ≡ is_empty (slice lo hi l)
   content_empty h = split (dec_lt lo hi)
     where
@@ -74,9 +71,3 @@ module _ (l : List ℕ) (lo hi : ℕ) where
 
   pub none_top : hi ≤ lo → slice lo hi l ≡ drop_first (slice lo hi l)
   none_top h = rw (content_none h)
-
-  pub none_last : (v : ℕ) → hi ≤ lo → false ≡ bottom_is v (slice lo hi l)
-  none_last v h = rw (content_none h)
-
-  pub none_first : (v : ℕ) → hi ≤ lo → false ≡ top_is v (slice lo hi l)
-  none_first v h = rw (content_none h)

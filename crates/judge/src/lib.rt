@@ -7,7 +7,7 @@ ghost use Rattle.judge.specs.Inner.Entries.{entries_in};
 ghost use Rattle.judge.specs.Inner.Order.{Fields, EndsKept, Whole, is_full};
 ghost use Rattle.judge.specs.Inner.Causes.{Clean, Kept34};
 ghost use Rattle.rules.specs.Search.{any};
-ghost use Rattle.rules.specs.Judge.{says, moment_rules_of, rules_of, head_right, judge_of};
+ghost use Rattle.rules.specs.Judge.{says, rule_number, verdict_in, moment_rules_of, rules_of, head_right, judge_of};
 
 mod entries; // rule 1
 mod ends; // rule 2
@@ -20,16 +20,17 @@ mod ordered; // the calls of any log by rising moment
 
 pub use crate::ordered::in_order;
 use call_log::{ENTRY_LENGTH, HEAD_LENGTH};
-pub use rules::Verdict;
+pub use rules::{Fault, Rule};
 
-fn verdict_of(number: u8, j: usize) -> Verdict
-    requires { j < 65536 }
-    ensures { result ≡ says number j }
+// A refusal for an entry.
+fn fault(rule: Rule, entry: usize) -> Result<(), Fault>
+    requires { entry < 65536 }
+    ensures { verdict_in result ≡ says (rule_number rule) entry }
 {
-    Verdict {
-        number,
-        entry: j as u16,
-    }
+    Err(Fault {
+        rule,
+        entry: entry as u16,
+    })
 }
 
 // The entries of a log that is whole.
@@ -41,25 +42,25 @@ fn entries_of(log: &[u8]) -> &[[u8; ENTRY_LENGTH]]
 }
 
 // The rules in order, each over the whole log: 1 and 2, then the others.
-fn rules(entries: &[[u8; ENTRY_LENGTH]], p: u8, slots: u8) -> Verdict
+fn rules(entries: &[[u8; ENTRY_LENGTH]], p: u8, slots: u8) -> Result<(), Fault>
     requires { (length entries.now ≤ 256) × (p ≤ 8) }
-    ensures { result ≡ rules_of (entries_in entries.now) (length entries.now) p slots }
+    ensures { verdict_in result ≡ rules_of (entries_in entries.now) (length entries.now) p slots }
 {
     if let Some(at) = entries::first_wrong(entries, p) {
-        return verdict_of(14, at);
+        return fault(Rule::Fields, at);
     }
     if let Some(at) = ends::first_clash(entries) {
-        return verdict_of(15, at);
+        return fault(Rule::Ends, at);
     }
     moment_rules(entries, slots)
 }
 
 // Rules 3 to 6, which speak of moments, with arrays no larger than the log needs: the judge clears them.
-fn moment_rules(entries: &[[u8; ENTRY_LENGTH]], slots: u8) -> Verdict
+fn moment_rules(entries: &[[u8; ENTRY_LENGTH]], slots: u8) -> Result<(), Fault>
     requires few { length entries.now ≤ 256 }
     requires fields { Fields (entries_in entries.now) (length entries.now) }
     requires ends { EndsKept (entries_in entries.now) (length entries.now) }
-    ensures { result ≡ moment_rules_of (entries_in entries.now) (length entries.now) slots }
+    ensures { verdict_in result ≡ moment_rules_of (entries_in entries.now) (length entries.now) slots }
 {
     match entries.len() {
         0..=8 => moment_rules_in::<8, 72>(entries, slots),
@@ -72,40 +73,45 @@ fn moment_rules(entries: &[[u8; ENTRY_LENGTH]], slots: u8) -> Verdict
 fn moment_rules_in<const WIDTH: usize, const NODES: usize>(
     entries: &[[u8; ENTRY_LENGTH]],
     slots: u8,
-) -> Verdict
+) -> Result<(), Fault>
     requires fields { Fields (entries_in entries.now) (length entries.now) }
     requires ends { EndsKept (entries_in entries.now) (length entries.now) }
     requires roomy { (length entries.now ≤ WIDTH) × (WIDTH ≤ 256) × (NODES ≡ 9 * WIDTH) }
-    ensures { result ≡ moment_rules_of (entries_in entries.now) (length entries.now) slots }
+    ensures { verdict_in result ≡ moment_rules_of (entries_in entries.now) (length entries.now) slots }
 {
     let mut keys = [0; WIDTH];
     let mut nodes = [0; NODES];
     let sorted = match order::by_moment(entries, &mut keys) {
         Ok(sorted) => sorted,
-        Err(at) => return verdict_of(16, at),
+        Err(at) => return fault(Rule::Moments, at),
     };
     let keys = &keys[..sorted.count];
     let watch = nodes::watched(entries, sorted.count);
     if let Some(at) = replay::first_unlawful(entries, keys, &mut nodes, WIDTH, watch) {
-        return verdict_of(17, at);
+        return fault(Rule::Contents, at);
     }
     last_rules(entries, slots, keys, sorted.full)
 }
 
 // Rules 5 and 6, where the others are kept.
-fn last_rules(entries: &[[u8; ENTRY_LENGTH]], slots: u8, keys: &[usize], refused: bool) -> Verdict
+fn last_rules(
+    entries: &[[u8; ENTRY_LENGTH]],
+    slots: u8,
+    keys: &[usize],
+    refused: bool,
+) -> Result<(), Fault>
     requires clean { Clean (entries_in entries.now) (length entries.now) keys.now (length keys.now) }
     requires kept { Kept34 (entries_in entries.now) (length entries.now) }
     requires told { refused ≡ any (is_full (entries_in entries.now)) (length entries.now) }
-    ensures { result ≡ moment_rules_of (entries_in entries.now) (length entries.now) slots }
+    ensures { verdict_in result ≡ moment_rules_of (entries_in entries.now) (length entries.now) slots }
 {
     if let Some(at) = causes::first_uncaused(entries, keys) {
-        return verdict_of(18, at);
+        return fault(Rule::Causes, at);
     }
     if let Some(at) = full::first_unfilled(entries, slots, refused) {
-        return verdict_of(19, at);
+        return fault(Rule::Full, at);
     }
-    verdict_of(0, 0)
+    Ok(())
 }
 
 // Section 1's count, P and C are right, and there are not too many entries.
@@ -121,25 +127,25 @@ fn head_right(count: u8, p: u8, slots: u8, n: usize) -> bool
 }
 
 // The judge, of any bytes.
-pub fn judge(log: &[u8]) -> Verdict
-    ensures { result ≡ judge_of log.now }
+pub fn judge(log: &[u8]) -> Result<(), Fault>
+    ensures { verdict_in result ≡ judge_of log.now }
 {
     if log.len() < HEAD_LENGTH {
-        return verdict_of(11, 0);
+        return fault(Rule::CutShort, 0);
     }
     let count = base::byte_at(log, 0);
     let p = base::byte_at(log, 1);
     let slots = base::byte_at(log, 2);
     let entries = base::number_at(log, 3);
     if !head_right(count, p, slots, usize::from(entries)) {
-        return verdict_of(12, 0);
+        return fault(Rule::Head, 0);
     }
     let whole = call_log::length_of(entries);
     if log.len() < whole {
-        return verdict_of(11, 0);
+        return fault(Rule::CutShort, 0);
     }
     if whole < log.len() {
-        return verdict_of(13, 0);
+        return fault(Rule::TooLong, 0);
     }
     rules(entries_of(log), p, slots)
 }

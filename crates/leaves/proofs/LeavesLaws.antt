@@ -12,7 +12,6 @@ use Rattle.call_log.specs.declared.Entry.{Entry}
 use Rattle.call_log.specs.Numbers.{what}
 use Rattle.call_log.specs.Decode.{log_length, entry_count_of, entry_at}
 use Rattle.rules.specs.Contents.{before, applied}
-use Rattle.rules.specs.declared.Verdict.{Verdict}
 use Rattle.rules.specs.Judge.{first3, judge_of}
 use Rattle.rules.specs.Left.{after_all, left_in, unordered, left_of, Leaves}
 use Rattle.base.proofs.Bools.{and_i}
@@ -101,39 +100,25 @@ zeros_less zero n h = let e : n - 0 ≡ n = omega arith in rw e
 zeros_less (suc m) zero h = absurd (omega arith)
 zeros_less (suc m) (suc n) h = let e : suc n - suc m ≡ n - m = omega arith in rw e (zeros_less m n (omega arith))
 
--- what is given for a log that is refused, and for one that is not
-module _ (bytes : List ℕ) (v : Verdict) (is : v ≡ judge_of bytes) where
-  pub leaves_none : (q : ℕ) → unordered v.number ≡ true → Leaves bytes q v.number 0 (replicate 256 0)
-  leaves_none q t =
-      let r : unordered (judge_of bytes).number ≡ true = ap (λ (w : Verdict). unordered w.number) (sym is) ∙ t in
-      let none : [] ≡ left_of bytes q = sym (ap (λ (s : Bool). cond s [] (left_in (entry_at bytes) (entry_count_of bytes) q)) r) in
+-- what is given for a log that is not refused
+module _ (bytes : List ℕ) (free : unordered (judge_of bytes).number ≡ false) where
+  whole_log : InOrder bytes
+  whole_log = in_order bytes free
+
+  pub few_calls : entry_count_of bytes ≤ 256
+  few_calls = whole_log.few
+
+  pub has_order_lem : has_order bytes ≡ true
+  has_order_lem =
+      and_i (and_i (le-leb (entry_count_of bytes) 256 few_calls) (eq-eqb (length bytes) (log_length (entry_count_of bytes)) whole_log.sized))
+      (le-leb (entry_count_of bytes) (first3 (entry_at bytes) (entry_count_of bytes)) whole_log.rule3)
+
+  pub leaves_some : (q : ℕ) (part : List ℕ) (c : ℕ) → part ≡ left_in (entry_at bytes) (entry_count_of bytes) q → c ≡ length part → length part ≤ 256
+      → Leaves bytes q 0 c (part ++ drop (length part) (replicate 256 0))
+  leaves_some q part c e l few =
+      let p : part ≡ left_of bytes q = e ∙ sym (ap (λ (s : Bool). cond s [] (left_in (entry_at bytes) (entry_count_of bytes) q)) free) in
       record {
-        refused = sym (ap (λ (s : Bool). cond s (judge_of bytes).number 0) r ∙ ap (λ (w : Verdict). w.number) (sym is));
-        counted = ap length none;
-        put = ap (λ (x : List ℕ). x ++ replicate (256 - length x) 0) none;
+        refused = sym (ap (λ (s : Bool). cond s (judge_of bytes).number 0) free);
+        counted = l ∙ ap length p;
+        put = ap (λ (x : List ℕ). part ++ x) (zeros_less (length part) 256 few) ∙ ap (λ (x : List ℕ). x ++ replicate (256 - length x) 0) p;
       }
-
-  module _ (t : unordered v.number ≡ false) where
-    free : unordered (judge_of bytes).number ≡ false
-    free = ap (λ (w : Verdict). unordered w.number) (sym is) ∙ t
-
-    whole_log : InOrder bytes
-    whole_log = in_order bytes free
-
-    pub few_calls : entry_count_of bytes ≤ 256
-    few_calls = whole_log.few
-
-    pub has_order_lem : has_order bytes ≡ true
-    has_order_lem =
-        and_i (and_i (le-leb (entry_count_of bytes) 256 few_calls) (eq-eqb (length bytes) (log_length (entry_count_of bytes)) whole_log.sized))
-        (le-leb (entry_count_of bytes) (first3 (entry_at bytes) (entry_count_of bytes)) whole_log.rule3)
-
-    pub leaves_some : (q : ℕ) (part : List ℕ) (c : ℕ) → part ≡ left_in (entry_at bytes) (entry_count_of bytes) q → c ≡ length part → length part ≤ 256
-        → Leaves bytes q 0 c (part ++ drop (length part) (replicate 256 0))
-    leaves_some q part c e l few =
-        let p : part ≡ left_of bytes q = e ∙ sym (ap (λ (s : Bool). cond s [] (left_in (entry_at bytes) (entry_count_of bytes) q)) free) in
-        record {
-          refused = sym (ap (λ (s : Bool). cond s (judge_of bytes).number 0) free);
-          counted = l ∙ ap length p;
-          put = ap (λ (x : List ℕ). part ++ x) (zeros_less (length part) 256 few) ∙ ap (λ (x : List ℕ). x ++ replicate (256 - length x) 0) p;
-        }

@@ -26,7 +26,7 @@ fn print_run(rt: &impl Print, log: &[u8], entries: u16, steps: u16, gone: u16, l
     } else {
         print::entries(rt, log, entries);
     }
-    let verdict = judge::judge(log).number;
+    let (verdict, _) = rules::numbers(judge::judge(log));
     let _ = println!(rt; "entries {entries} steps {steps} gone-round {gone} judge {verdict}");
 }
 
@@ -55,8 +55,8 @@ fn run(rt: &HostRuntime, left: bool) {
 fn judge(rt: &HostRuntime) {
     let mut log = [0u8; JUDGED_BYTES];
     if let Some(n) = stdio::read(rt, &mut rt.stdin(), &mut log) {
-        let verdict = judge::judge(&log[..n]);
-        let _ = println!(rt; "judge {} entry {}", verdict.number, verdict.entry);
+        let (number, entry) = rules::numbers(judge::judge(&log[..n]));
+        let _ = println!(rt; "judge {number} entry {entry}");
     }
 }
 

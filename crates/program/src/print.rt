@@ -14,8 +14,8 @@ pub(crate) fn entries(rt: &impl Print, log: &[u8], count: u16) {
 // The nodes that a log leaves in a queue, top first.
 fn left_in(rt: &impl Print, log: &[u8], queue: u8) {
     let mut nodes = [0u16; 256];
-    let left = leaves::left(log, queue, &mut nodes);
-    let nodes = &nodes[..usize::from(left.count)];
+    let count = leaves::left(log, queue, &mut nodes).unwrap_or(0);
+    let nodes = &nodes[..usize::from(count)];
     let _ = print!(rt; "queue {queue} left");
     for node in nodes {
         let _ = print!(rt; " {node}");

@@ -36,7 +36,7 @@ fn judged(number: u16, log: &[u8]) -> u8
     ensures { result ≡ judged_of number log.now }
 {
     if number == 0 {
-        judge::judge(log).number
+        rules::numbers(judge::judge(log)).0
     } else {
         0
     }

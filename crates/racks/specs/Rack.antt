@@ -1,7 +1,7 @@
 -- A rack of files: a two-byte count, then each file after its two-byte length; its replies, and what it leaves in the log buffer.
 use Rattle.std.specs.Prelude.{ℕ, zero, suc, ◌+◌, ◌*◌, cond, ltb, eqb, List, [], ◌∷◌, ◌++◌, length, drop, ◌≡◌, Result, Ok, Err}
 use Rattle.base.specs.Bytes.{number_at, pair, part}
-use Rattle.rules.specs.{Judge.judge_of, declared.Verdict.Verdict}
+use Rattle.rules.specs.{Judge.judge_of, Judge.Verdict}
 use Rattle.runs.specs.{Promise.buffer_of, Run.Outcome, Run.run_of}
 use Rattle.racks.specs.declared.Refusal.{Refusal}
 use Rattle.racks.specs.declared.Refusal.TheVariants.{NoRack, NoRoom}

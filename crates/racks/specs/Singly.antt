@@ -1,6 +1,6 @@
 -- What files get singly, one call after another on the same log buffer: a rack's replies and log buffer are to be the same.
 use Rattle.std.specs.Prelude.{ℕ, List, [], ◌∷◌, ◌++◌, length, get_or, take, ◌≡◌}
-use Rattle.rules.specs.{Judge.judge_of, declared.Verdict.Verdict}
+use Rattle.rules.specs.{Judge.judge_of, Judge.Verdict}
 use Rattle.runs.specs.Promise.{Ran}
 use Rattle.racks.specs.Rack.{unless_refused, reply_bytes, replies_of, log_after}
 

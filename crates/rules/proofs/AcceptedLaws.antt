@@ -18,7 +18,7 @@ use Rattle.call_log.specs.Decode.{section_count_of, processes_of, slots_of, entr
 use Rattle.call_log.specs.Encode.{Log, section_count, InRange, log_bytes}
 use Rattle.call_log.proofs.EncodeLaws.{decoded, entry_decoded, processes_decoded, slots_decoded, entry_count_decoded, whole_encoded, encode_decode}
 use Rattle.call_log.proofs.EncodeLaws.{in_range_lem}
-use Rattle.rules.specs.declared.Verdict.{Verdict}
+use Rattle.rules.specs.Judge.{Verdict}
 use Rattle.rules.specs.Search.{any}
 use Rattle.rules.specs.Contents.{bears, on, before}
 use Rattle.rules.specs.Rules.{clash, bears_at, is_empty, top_is, bottom_is, added_before, fresh, lawful, lawful_at, in_call, empty_within, takes_topmost}

@@ -13,3 +13,5 @@ pub mod FieldLaws
 pub mod KeptLaws
 pub mod ContentLaws
 pub mod VerdictLaws
+-- Each public function's promise settles its result.
+pub mod Settled

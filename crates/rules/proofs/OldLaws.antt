@@ -14,7 +14,7 @@ use Rattle.call_log.specs.Numbers.{top_pop, nil, lost, no_moment, what, same, is
 use Rattle.call_log.specs.Decode.{head_length, log_length}
 use Rattle.call_log.specs.Encode.{Log, section_count, log_bytes}
 use Rattle.call_log.proofs.EncodeLaws.{processes_decoded, slots_decoded, entry_count_decoded, length_log, whole_encoded}
-use Rattle.rules.specs.declared.Verdict.{Verdict}
+use Rattle.rules.specs.Judge.{Verdict}
 use Rattle.rules.specs.Search.{first, any, lowest}
 use Rattle.rules.proofs.SearchLaws.{any_from}
 use Rattle.rules.specs.Contents.{bears, event_at, before, applied}

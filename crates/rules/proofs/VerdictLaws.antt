@@ -1,21 +1,17 @@
 -- The rules one after the other, and the head before them, as a chain of early answers takes them.
 use mathlib.Core.Path.{◌≡◌}
-use mathlib.Core.Bool.{Bool, true, false, ◌&&◌}
+use mathlib.Core.Bool.{Bool, true, ◌&&◌}
 use mathlib.Core.List.{List}
 use Prim.Native.Nat.{ℕ, ◌+◌, ◌*◌, ◌≤◌, ◌<◌}
-use native.Mathlib.Omega.{arith}
 use borrow.Author.Tests.{lt-ltb, le-ltb, leb-true}
 use lib.Dec.{leb, eqb}
 use lib.ListN.{length}
 use Rattle.call_log.specs.declared.Entry.{Entry}
 use Rattle.call_log.specs.Decode.{section_count_of, processes_of, slots_of, entry_count_of, entry_at}
 use Rattle.call_log.specs.Encode.{section_count}
-use Rattle.rules.specs.declared.Verdict.{Verdict}
+use Rattle.rules.specs.Judge.{Verdict}
 use Rattle.rules.specs.Judge.{says, first1, first2, first3, first4, first5, first6, moment_rules_of, rules_of, head_right, judge_of}
 use Rattle.base.proofs.Bools.{and_0, and_1}
-
-pub pass : (i j n : ℕ) → i ≡ j → n ≤ i → n ≤ j
-pass i j n e h = omega arith
 
 module _ (f : ℕ → Entry) (n P C : ℕ) (r : Verdict) where
   pub says1 : (i : ℕ) → i ≡ first1 f n P → i < n → r ≡ says 14 i → r ≡ rules_of f n P C
@@ -29,23 +25,8 @@ module _ (f : ℕ → Entry) (n P C : ℕ) (r : Verdict) where
     says_later h2 p = rw (le-ltb (first1 f n P) n h1, le-ltb (first2 f n) n h2) p
 
 module _ (f : ℕ → Entry) (n C : ℕ) (r : Verdict) where
-  pub says3 : (i : ℕ) → i ≡ first3 f n → i < n → r ≡ says 16 i → r ≡ moment_rules_of f n C
-  says3 i e h p = rw (← e, lt-ltb i n h) p
-
-  module _ (h3 : n ≤ first3 f n) where
-    pub says4 : (i : ℕ) → i ≡ first4 f n → i < n → r ≡ says 17 i → r ≡ moment_rules_of f n C
-    says4 i e h p = rw (le-ltb (first3 f n) n h3, ← e, lt-ltb i n h) p
-
-    module _ (h4 : n ≤ first4 f n) where
-      pub says5 : (i : ℕ) → i ≡ first5 f n → i < n → r ≡ says 18 i → r ≡ moment_rules_of f n C
-      says5 i e h p = rw (le-ltb (first3 f n) n h3, le-ltb (first4 f n) n h4, ← e, lt-ltb i n h) p
-
-      module _ (h5 : n ≤ first5 f n) where
-        pub says6 : (i : ℕ) → i ≡ first6 f n C → i < n → r ≡ says 19 i → r ≡ moment_rules_of f n C
-        says6 i e h p = rw (le-ltb (first3 f n) n h3, le-ltb (first4 f n) n h4, le-ltb (first5 f n) n h5, ← e, lt-ltb i n h) p
-
-        pub says0 : n ≤ first6 f n C → r ≡ says 0 0 → r ≡ moment_rules_of f n C
-        says0 h6 p = rw (le-ltb (first3 f n) n h3, le-ltb (first4 f n) n h4, le-ltb (first5 f n) n h5, le-ltb (first6 f n C) n h6) p
+  pub says0 : n ≤ first3 f n → n ≤ first4 f n → n ≤ first5 f n → n ≤ first6 f n C → r ≡ says 0 0 → r ≡ moment_rules_of f n C
+  says0 h3 h4 h5 h6 p = rw (le-ltb (first3 f n) n h3, le-ltb (first4 f n) n h4, le-ltb (first5 f n) n h5, le-ltb (first6 f n C) n h6) p
 
 -- the head
 abbrev pub head_of : List ℕ → Bool
@@ -70,20 +51,6 @@ module _ (l : List ℕ) (m P C n : ℕ) where
   rules_read b c d = rw (b, c, d)
 
 module _ (l : List ℕ) (r : Verdict) where
-  pub short : length l < 5 → r ≡ says 11 0 → r ≡ judge_of l
-  short h p = rw (lt-ltb (length l) 5 h) p
-
-  module _ (h : 5 ≤ length l) where
-    pub wrong : head_of l ≡ false → r ≡ says 12 0 → r ≡ judge_of l
-    wrong b p = rw (le-ltb (length l) 5 h, b) p
-
-    module _ (b : head_of l ≡ true) where
-      pub cut : length l < 5 + 12 * entry_count_of l → r ≡ says 11 0 → r ≡ judge_of l
-      cut k p = rw (le-ltb (length l) 5 h, b, lt-ltb (length l) (5 + 12 * entry_count_of l) k) p
-
-      module _ (k : 5 + 12 * entry_count_of l ≤ length l) where
-        pub long : 5 + 12 * entry_count_of l < length l → r ≡ says 13 0 → r ≡ judge_of l
-        long m p = rw (le-ltb (length l) 5 h, b, le-ltb (length l) (5 + 12 * entry_count_of l) k, lt-ltb (5 + 12 * entry_count_of l) (length l) m) p
-
-        pub whole : length l ≤ 5 + 12 * entry_count_of l → r ≡ rules_of (entry_at l) (entry_count_of l) (processes_of l) (slots_of l) → r ≡ judge_of l
-        whole m p = rw (le-ltb (length l) 5 h, b, le-ltb (length l) (5 + 12 * entry_count_of l) k, le-ltb (5 + 12 * entry_count_of l) (length l) m) p
+  pub whole : 5 ≤ length l → head_of l ≡ true → 5 + 12 * entry_count_of l ≤ length l → length l ≤ 5 + 12 * entry_count_of l
+      → r ≡ rules_of (entry_at l) (entry_count_of l) (processes_of l) (slots_of l) → r ≡ judge_of l
+  whole h b k m p = rw (le-ltb (length l) 5 h, b, le-ltb (length l) (5 + 12 * entry_count_of l) k, le-ltb (5 + 12 * entry_count_of l) (length l) m) p

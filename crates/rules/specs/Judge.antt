@@ -1,11 +1,16 @@
 -- What the judge says of a log's bytes: document 01, "Numbers given back".
-use Rattle.std.specs.Prelude.{ℕ, Bool, cond, not, ◌&&◌, ltb, leb, eqb, List, length}
+use Rattle.std.specs.Prelude.{ℕ, Result, Ok, Err, Bool, cond, not, ◌&&◌, ltb, leb, eqb, List, length}
 use Rattle.call_log.specs.{declared.Entry.Entry, Encode.section_count, Encode.most_entries}
 use Rattle.call_log.specs.Decode.{head_length, log_length, section_count_of, processes_of, slots_of, entry_count_of, entry_at}
-use Rattle.rules.specs.{declared.Verdict.Verdict, Search.first, Search.lowest}
+use Rattle.rules.specs.{declared.Rule.Rule, declared.Fault.Fault, Search.first, Search.lowest}
+use Rattle.rules.specs.declared.Rule.TheVariants.{CutShort, Head, TooLong, Fields, Ends, Moments, Contents, Causes, Full}
 use Rattle.rules.specs.Rules.{breaks1, breaks2, breaks3, breaks4, breaks5, breaks6}
 
--- a number, and the entry at fault
+-- a number, 0 for an accepted log, and the entry at fault
+pub record Verdict : Type 0 where
+  pub number : ℕ
+  pub entry : ℕ
+
 abbrev pub says : ℕ → ℕ → Verdict
 says number j = record { number = number; entry = j }
 
@@ -57,3 +62,20 @@ judge_of bytes =
     (cond (ltb (length bytes) (log_length (entry_count_of bytes))) (says 11 0)
     (cond (ltb (log_length (entry_count_of bytes)) (length bytes)) (says 13 0)
     (rules_of (entry_at bytes) (entry_count_of bytes) (processes_of bytes) (slots_of bytes)))))
+
+-- The judge's answer in the program, in document 01's numbers: 11 for a log that is cut short, 12 for its head, 13 for bytes after it, 14 to 19 for
+-- rules 1 to 6.
+abbrev pub rule_number : Rule → ℕ
+rule_number CutShort = 11
+rule_number Head = 12
+rule_number TooLong = 13
+rule_number Fields = 14
+rule_number Ends = 15
+rule_number Moments = 16
+rule_number Contents = 17
+rule_number Causes = 18
+rule_number Full = 19
+
+abbrev pub verdict_in : Result (Unit {0}) Fault → Verdict
+verdict_in (Ok accepted) = says 0 0
+verdict_in (Err fault) = says (rule_number fault.rule) fault.entry

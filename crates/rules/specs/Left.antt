@@ -1,8 +1,8 @@
 -- C-17. The nodes that a log leaves in each queue, how often each was pushed and returned, and what follows for accepted logs. A log is f and n.
-use Rattle.std.specs.Prelude.{ℕ, zero, suc, ◌+◌, ◌-◌, ◌<◌, ◌≤◌, Bool, true, cond, ◌&&◌, ◌||◌, ltb, leb, eqb, List, [], ◌∷◌, ◌++◌, length, replicate, ◌≡◌}
+use Rattle.std.specs.Prelude.{ℕ, Result, Ok, Err, zero, suc, ◌+◌, ◌-◌, ◌<◌, ◌≤◌, Bool, true, cond, ◌&&◌, ◌||◌, ltb, leb, eqb, List, [], ◌∷◌, ◌++◌, length, replicate, ◌≡◌}
 use Rattle.call_log.specs.{declared.Entry.Entry, Numbers.what, Numbers.same, Decode.entry_count_of, Decode.entry_at, Encode.most_entries}
 use Rattle.call_log.specs.declared.What.TheVariants.{Pushed, BottomNode, TopNode}
-use Rattle.rules.specs.{Search.count, Search.sum_to, Contents.bears, Contents.before, Judge.judge_of, Accepted.Accepted}
+use Rattle.rules.specs.{Search.count, Search.sum_to, Contents.bears, Contents.before, declared.Rule.Rule, Judge.rule_number, Judge.judge_of, Accepted.Accepted}
 
 -- an instant after all moments: one more than the greatest, and 0 where there is none
 abbrev pub after_all : (ℕ → Entry) → ℕ → ℕ
@@ -95,3 +95,12 @@ pub record Leaves (bytes : List ℕ) (q number count : ℕ) (nodes : List ℕ) :
   pub refused : number ≡ cond (unordered (judge_of bytes).number) (judge_of bytes).number 0
   pub counted : count ≡ length (left_of bytes q)
   pub put : nodes ≡ left_of bytes q ++ replicate (most_entries - length (left_of bytes q)) 0
+
+-- the same in the program's answer: how many nodes are left, or the refusal
+abbrev pub refusal_in : Result ℕ Rule → ℕ
+refusal_in (Ok count) = 0
+refusal_in (Err rule) = rule_number rule
+
+abbrev pub count_in : Result ℕ Rule → ℕ
+count_in (Ok count) = count
+count_in (Err rule) = 0

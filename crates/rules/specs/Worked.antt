@@ -3,7 +3,7 @@ use Rattle.std.specs.Prelude.{ℕ, List, [], ◌∷◌, ◌++◌, map, take, rep
 use Rattle.call_log.specs.{declared.Entry.Entry, declared.What.What, Decode.entry_count_of, Decode.entry_at, Encode.head_bytes, Encode.log_bytes, Worked.line}
 use Rattle.call_log.specs.declared.What.TheVariants.{Pushed, Full, BottomNode, BottomNil, TopNode, TopNil, TopLost}
 use Rattle.call_log.specs.Numbers.{push, bottom_pop, top_pop, nil, full, lost, no_moment, kind_of, result_of}
-use Rattle.rules.specs.{declared.Verdict.Verdict, Contents.before, Judge.says, Judge.judge_of}
+use Rattle.rules.specs.{Judge.Verdict, Contents.before, Judge.says, Judge.judge_of}
 use Rattle.rules.specs.Left.{after_all, nodes_by, times_pushed, left_of}
 
 -- process, queue, what happened, node, start, end, moment

@@ -36,9 +36,8 @@ pub extern "C" fn scarpgoblet_rack(files: &[u8], log: &mut [u8], replies: &mut [
 pub extern "C" fn scarpgoblet_judge(log: &[u8]) -> u32
     ensures { result ≡ (judge_of log.now).number }
 {
-    let verdict = judge::judge(log);
-    let number = verdict.number;
-    number as u32
+    let (number, _) = rules::numbers(judge::judge(log));
+    u32::from(number)
 }
 
 // The entry at fault, from 0.
@@ -46,9 +45,8 @@ pub extern "C" fn scarpgoblet_judge(log: &[u8]) -> u32
 pub extern "C" fn scarpgoblet_judge_entry(log: &[u8]) -> u32
     ensures { result ≡ (judge_of log.now).entry }
 {
-    let verdict = judge::judge(log);
-    let entry = verdict.entry;
-    entry as u32
+    let (_, entry) = rules::numbers(judge::judge(log));
+    u32::from(entry)
 }
 
 // The nodes that a log leaves in a queue, top first, and 0 after them; gives 0, or the judge's number where the log's calls have no order.
@@ -61,8 +59,14 @@ pub extern "C" fn scarpgoblet_left(
 ) -> u32
     ensures { Leaves log.now queue result (get_or count.new 0 0) nodes.new }
 {
-    let left = leaves::left(log, queue, nodes);
-    let number = left.number;
-    *count = [left.count];
-    number as u32
+    match leaves::left(log, queue, nodes) {
+        Ok(left) => {
+            *count = [left];
+            0
+        }
+        Err(rule) => {
+            *count = [0];
+            u32::from(u8::from(rule))
+        }
+    }
 }

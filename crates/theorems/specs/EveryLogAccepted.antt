@@ -2,7 +2,7 @@
 use Rattle.std.specs.Prelude.{ℕ, List, get_or, take, ◌≡◌}
 use Rattle.base.specs.Bytes.{Bytes}
 use Rattle.runs.specs.{Run.run_of, Promise.Ran, Promise.HandsBack}
-use Rattle.rules.specs.{Judge.says, Judge.judge_of, declared.Verdict.Verdict}
+use Rattle.rules.specs.{Judge.says, Judge.judge_of, Judge.Verdict}
 
 abbrev pub EveryLogAccepted : Type 0
 EveryLogAccepted = (file : List ℕ) → Bytes file → (room : ℕ) → (run_of file room).number ≡ 0 → (run_of file room).gone ≡ 0

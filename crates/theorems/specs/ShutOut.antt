@@ -4,7 +4,7 @@ use Rattle.std.specs.Prelude.{ℕ, List, length, get_or, take, replicate, ◌≡
 use Rattle.base.specs.Bytes.{Bytes}
 use Rattle.call_log.specs.Decode.{entry_at}
 use Rattle.runs.specs.{Promise.Ran, Promise.HandsBack, Run.table_size, Worked.Case, Worked.K3, Worked.room}
-use Rattle.rules.specs.{Judge.judge_of, declared.Verdict.Verdict}
+use Rattle.rules.specs.{Judge.judge_of, Judge.Verdict}
 
 abbrev pub FrontHandedBack : Type 0
 FrontHandedBack = (file buffer : List ℕ) (written : ℕ) (buffer' report table : List ℕ) → Ran file buffer written buffer' report table

@@ -9,8 +9,8 @@ fn each(rt: &impl Print, bytes: &[u8]) {
 
 // What the judge says of a log.
 pub(crate) fn judged(rt: &impl Print, log: &[u8]) {
-    let verdict = judge::judge(log);
-    let _ = print!(rt; " judge {} entry {}", verdict.number, verdict.entry);
+    let (number, entry) = rules::numbers(judge::judge(log));
+    let _ = print!(rt; " judge {number} entry {entry}");
 }
 
 // The counts, the judge's number and entry, bottom, top, tag and first slot of queue 0, and the log's bytes.

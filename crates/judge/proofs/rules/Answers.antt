@@ -18,7 +18,7 @@ returns-in-Some c =
     let n = length a.entries.now in
     let first = c.first_wrong.ensures ∙ position_is (λ bytes. not (keeps1 a.p (first_entry bytes))) a.entries.now in
     let z = found_some n (first1 f n a.p) c.in-Some.at (sym c.in-Some.is ∙ first) in
-    says1 f n a.p a.slots _ c.in-Some.at z.0 z.1 c.verdict_of.ensures
+    says1 f n a.p a.slots _ c.in-Some.at z.0 z.1 c.fault.ensures
 
 pub first_clash-requires : goal.first_clash-requires
 first_clash-requires c =
@@ -36,7 +36,7 @@ returns-in-Some-first_clash c =
     let first = c.first_wrong.ensures ∙ position_is (λ bytes. not (keeps1 a.p (first_entry bytes))) a.entries.now in
     let kept1 = found_not n (first1 f n a.p) _ first c.in_default.not-Some in
     let z = found_some n (first2 f n) c.in-Some-first_clash.at (sym c.in-Some-first_clash.is ∙ c.first_clash.ensures) in
-    says2 f n a.p a.slots _ kept1 c.in-Some-first_clash.at z.0 z.1 c.verdict_of-in-Some-first_clash.ensures
+    says2 f n a.p a.slots _ kept1 c.in-Some-first_clash.at z.0 z.1 c.fault-in-Some-first_clash.ensures
 
 pub moment_rules-requires : goal.moment_rules-requires
 moment_rules-requires c =

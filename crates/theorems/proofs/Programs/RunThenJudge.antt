@@ -6,7 +6,7 @@ use lib.ListN.{length, get_or}
 use Rattle.runs.proofs.PromiseLaws.{front_is}
 use Rattle.runs.specs.Run.{run_of}
 use Rattle.rules.specs.Judge.{says, judge_of}
-use Rattle.rules.specs.declared.Verdict.{Verdict}
+use Rattle.rules.specs.Judge.{Verdict}
 use Rattle.theorems.specs.EveryLogAccepted.{RunThenJudge, HostRunThenJudge}
 use Rattle.theorems.proofs.Rules.Accepted.{every_log_accepted}
 

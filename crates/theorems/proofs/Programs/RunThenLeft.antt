@@ -7,7 +7,7 @@ use lib.ListN.{length, get_or, take, replicate}
 use lib.Seq.{take-append_seam}
 use Rattle.call_log.specs.Decode.{processes_of}
 use Rattle.runs.specs.Run.{run_of}
-use Rattle.rules.specs.declared.Verdict.{Verdict}
+use Rattle.rules.specs.Judge.{Verdict}
 use Rattle.rules.specs.Judge.{says, judge_of}
 use Rattle.rules.specs.Left.{unordered, left_of, Leaves}
 use Rattle.theorems.proofs.Rules.Accepted.{every_log_accepted}

@@ -17,7 +17,7 @@ use Rattle.runs.specs.Run.{Outcome, table_size, run_of}
 use Rattle.runs.specs.Worked.{Case, K1, K3, K4, K5, K8, room}
 use Rattle.runs.proofs.PromiseLaws.{front_is}
 use Rattle.rules.specs.Contents.{before}
-use Rattle.rules.specs.declared.Verdict.{Verdict}
+use Rattle.rules.specs.Judge.{Verdict}
 use Rattle.theorems.specs.ShutOut.{FrontHandedBack, Bench, Judge, Always, log_of, ShutOut}
 
 pub front_handed_back : FrontHandedBack
