@@ -1,11 +1,15 @@
 -- Two answers that one promise allows are equal: every promise here is an equation, or a record of equations.
-use Prim.Native.Nat.{ℕ, ◌/◌, ◌%◌}
+use Prim.Native.Nat.{ℕ, ◌/◌, ◌%◌, ◌<◌}
 use mathlib.Core.Path.{◌≡◌, sym, ◌∙◌}
 use mathlib.Core.List.{List}
 use Rattle.base.specs.Bytes.{joined, byte_at, number_at, put_at}
 
 pub one_value : {A : Type 0} {x y z : A} → x ≡ z → y ≡ z → x ≡ y
 one_value p q = p ∙ sym q
+
+-- a number that is widened, which is the library's work now: its answer, and how small it is
+pub cast : (most x r r' : ℕ) → (r ≡ x) × (r < most) → (r' ≡ x) × (r' < most) → r ≡ r'
+cast most x r r' p q = one_value p.0 q.0
 
 pub joined_settled : (high low r r' : ℕ) → r ≡ joined high low → r' ≡ joined high low → r ≡ r'
 joined_settled high low r r' = one_value

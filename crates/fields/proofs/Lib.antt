@@ -1,3 +1,5 @@
+-- What a call did, by its kind and result alone.
+pub mod KindLaws
 -- Rule 1 of kind, result and node together.
 pub mod FieldLaws
 -- Each public function's promise settles its result.

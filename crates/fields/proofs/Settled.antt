@@ -26,3 +26,7 @@ took_after_lem e t r r' = one_value
 
 pub moved : (ends : ℕ) (e : Entry) (r r' : ℕ) → r ≡ ends_after (what e) ends → r' ≡ ends_after (what e) ends → r ≡ r'
 moved ends e r r' = one_value
+
+-- of a choice, which is an `if` now
+pub choose : (h : Bool) (a b r r' : ℕ) → r ≡ cond h a b → r' ≡ cond h a b → r ≡ r'
+choose h a b r r' = one_value

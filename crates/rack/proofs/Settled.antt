@@ -21,8 +21,13 @@ one_answer (Err NoRoom) (Ok u) e = grind arith
 one_answer (Err NoRack) (Err NoRoom) e = grind arith
 one_answer (Err NoRoom) (Err NoRack) e = grind arith
 
--- the answer, the log buffer and the reply buffer
-pub rack_settled : (rack log replies : List ℕ) (a b : Result Unit Refusal) (l l' r r' : List ℕ)
-    → Racked rack log replies (number_of a) l r → Racked rack log replies (number_of b) l' r' → (a ≡ b) × (l ≡ l') × (r ≡ r')
-rack_settled rack log replies a b l l' r r' p q =
-    (one_answer a b (one_value p.numbered q.numbered), one_value p.logged q.logged, one_value p.replied q.replied)
+-- the number, the log buffer and the reply buffer
+pub rack_settled : (rack log replies : List ℕ) (n m : ℕ) (l l' r r' : List ℕ) → Racked rack log replies n l r → Racked rack log replies m l' r'
+    → (n ≡ m) × (l ≡ l') × (r ≡ r')
+rack_settled rack log replies n m l l' r r' p q =
+    (one_value p.numbered q.numbered, one_value p.logged q.logged, one_value p.replied q.replied)
+
+-- and the answer that has the number
+pub rack_answer : (rack log replies : List ℕ) (a b : Result Unit Refusal) (l l' r r' : List ℕ)
+    → Racked rack log replies (number_of a) l r → Racked rack log replies (number_of b) l' r' → a ≡ b
+rack_answer rack log replies a b l l' r r' p q = one_answer a b (rack_settled rack log replies (number_of a) (number_of b) l l' r r' p q).0
