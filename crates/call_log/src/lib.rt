@@ -8,7 +8,7 @@ mod numbers; // the methods of `What`, and what an entry's call did
 pub use crate::decode::entry_at;
 pub use crate::encode::{has_room, length_of, put_entry, put_head};
 
-// A finished call, as its bytes have it: a log of any bytes is judged, so that kind and result may be any numbers.
+// A finished call, as its bytes have it: a log of any bytes is judged, so that kind and result may be any numbers, a node 0, and a moment NO_MOMENT.
 #[derive(Clone, Copy, Default)]
 pub struct Entry {
     pub process: u8,
@@ -48,8 +48,6 @@ pub const DONE: u8 = 1;
 pub const FULL: u8 = 2;
 
 pub const LOST: u8 = 3;
-
-pub const MOST_RESULT: u8 = LOST;
 
 // Stands where there is no moment.
 pub const NO_MOMENT: u16 = 65535;

@@ -28,7 +28,8 @@ impl What {
         }
     }
 
-    // What a kind and a result say a call did. Other numbers read as a top pop and as NIL: every reader refuses them before it asks.
+    // What a kind and a result say a call did. No `TryFrom`: the definition `what_of`, on which the rules stand, reads other numbers as a top pop and as
+    // NIL, and rule 1 refuses them.
     pub fn from_numbers(kind: u8, res: u8) -> What
         ensures { result ≡ what_of kind res }
     {

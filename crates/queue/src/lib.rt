@@ -34,12 +34,8 @@ fn load_from(slots: &[u16], from: Option<u16>) -> u16
 fn store_in(slots: &mut [u16], made: Option<Store>)
     ensures { slots.new ≡ stored slots.old made }
 {
-    // By index: a slice's `get_mut` promises nothing of what the slice holds after it.
     if let Some(Store { at, node }) = made {
-        let at = usize::from(at);
-        if at < slots.len() {
-            slots[at] = node;
-        }
+        base::put(slots, usize::from(at), &[node]);
     }
 }
 

@@ -3,14 +3,13 @@
 
 ghost use Rattle.std.specs.Prelude.{◌≡◌, ◌%◌, get_or};
 ghost use Rattle.base.specs.Bytes.{put_at};
-ghost use Rattle.racks.specs.Rack.{judged as judged_of, rack_of, reply_bytes};
-ghost use Rattle.racks.specs.Rack.{Racked, number_of};
+ghost use Rattle.racks.specs.Rack.{judged as judged_of, rack_of, reply_bytes, Racked, number_of};
 ghost use Rattle.racks.specs.Inner.Walk.{is_rack, RunsOne, Checked, RunsAll};
 
 pub use racks::Refusal;
 
 // A reply has number, three counts of two bytes, and the judge's number.
-const REPLY_LENGTH: usize = 8;
+pub const REPLY_LENGTH: usize = 8;
 
 // Whether the bytes are a rack: a walk over the lengths alone.
 fn is_rack(files: &[u8]) -> bool
@@ -44,7 +43,8 @@ fn judged(number: u16, log: &[u8]) -> u8
 
 // Puts a reply's eight bytes at a place: those of a run's report, and the judge's number.
 fn put_reply(replies: &mut [u8], place: usize, report: [u16; 4], verdict: u8)
-    ensures { replies.new ≡ put_at place (reply_bytes (get_or report 0 0 % 256) (get_or report 1 0) (get_or report 2 0) (get_or report 3 0) verdict) replies.old }
+    ensures { replies.new ≡ put_at place
+        (reply_bytes (get_or report 0 0 % 256) (get_or report 1 0) (get_or report 2 0) (get_or report 3 0) verdict) replies.old }
 {
     let [number, entries, steps, gone] = report;
     let bytes = [
@@ -72,7 +72,7 @@ fn one(file: &[u8], log: &mut [u8], replies: &mut [u8], place: usize)
     put_reply(replies, place, report, verdict)
 }
 
-// The files of a rack from the front.
+// The files of a rack from the front: a second walk over the lengths, for no file is run before the bytes are known to be a rack.
 fn run_all(files: &[u8], log: &mut [u8], replies: &mut [u8])
     requires { Checked files.now replies.old }
     ensures { RunsAll files.now log.old replies.old log.new replies.new }

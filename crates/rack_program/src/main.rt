@@ -2,16 +2,16 @@
 // or `refused` and the number of what is no rack.
 #![tactic(auto)]
 
+use rack::REPLY_LENGTH;
+
 // As much as is read, and as many files as are replied to: whoever packs more makes two racks. A longer rack, of whose end nothing is known, is not run.
 const RACK_BYTES: usize = 65536;
-
-const REPLY_BYTES: usize = 8;
 
 const MOST_FILES: usize = 1024;
 
 // So many replies, a line each: the number, and the four numbers after it.
 fn print_replies(rt: &impl Print, replies: &[u8], count: u16) {
-    for reply in replies.chunks_exact(REPLY_BYTES).take(usize::from(count)) {
+    for reply in replies.chunks_exact(REPLY_LENGTH).take(usize::from(count)) {
         let _ = println!(rt;
             "{} {} {} {} {}",
             base::byte_at(reply, 0),
@@ -25,7 +25,7 @@ fn print_replies(rt: &impl Print, replies: &[u8], count: u16) {
 
 fn run_rack(rt: &impl Print, files: &[u8]) {
     let mut log = [0u8; call_log::LONGEST_LOG];
-    let mut replies = [0u8; REPLY_BYTES * MOST_FILES];
+    let mut replies = [0u8; REPLY_LENGTH * MOST_FILES];
     match rack::rack(files, &mut log, &mut replies) {
         Ok(()) => print_replies(rt, &replies, base::number_at(files, 0)),
         Err(refusal) => {
