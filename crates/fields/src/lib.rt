@@ -88,7 +88,7 @@ pub fn took_after(e: Entry, took: u32) -> u32
     }
 }
 
-// What a call makes of its queue's ends. They come in 32 bits, so that there is room for a push whatever they are.
+// What a call makes of its queue's ends. They come in 32 bits, so that there is room for a push whatever they are; `usize` has no `From<u32>`.
 pub fn moved(ends: u32, e: Entry) -> usize
     ensures { result ≡ ends_after (what_is e) ends }
 {

@@ -69,7 +69,8 @@ fn moment_rules(entries: &[[u8; ENTRY_LENGTH]], slots: u8) -> Result<(), Fault>
     }
 }
 
-// The same in arrays for the keys of so many entries, and for the nodes of eight queues and of all pushes, in nine rows.
+// The same in arrays for the keys of so many entries, and for the nodes of eight queues and of all pushes, in nine rows of that width: Rattle computes
+// no const argument.
 fn moment_rules_in<const WIDTH: usize, const NODES: usize>(
     entries: &[[u8; ENTRY_LENGTH]],
     slots: u8,
