@@ -1,14 +1,14 @@
--- Whether a node is among those of a part of an array, told by a fold over the part.
+-- Whether a node is among the first of a list, told by a fold over them.
 use mathlib.Core.Path.{◌≡◌, refl, sym, ap, ◌∙◌}
 use mathlib.Core.Bool.{Bool, true, false, ◌||◌}
 use mathlib.Core.List.{List, [], ◌∷◌}
-use Prim.Native.Nat.{ℕ, zero, suc, ◌+◌, ◌≤◌, ◌<◌}
+use Prim.Native.Nat.{ℕ, zero, suc, ◌≤◌, ◌<◌}
 use native.Mathlib.Omega.{arith}
 use lib.Dec.{eqb}
-use lib.ListN.{length, get_or, take, drop}
+use lib.ListN.{length, get_or, take}
+use lib.Seq.{length-take-le, get_or-take}
 use Rattle.std.specs.List.{fold}
 use Rattle.base.proofs.Bools.{contra, or_l, or_r, by_both}
-use Rattle.base.proofs.Bytes.{part_length, part_get}
 use Rattle.rules.specs.Search.{any}
 use Rattle.rules.proofs.SearchLaws.{Found, any_i, any_e}
 
@@ -37,17 +37,12 @@ module _ (v : ℕ) where
       by true d later = record { at = zero; below = omega arith; passes = d }
       by false d later = let z = later d in record { at = suc z.at; below = omega (arith, z.below); passes = z.passes }
 
-  -- of a part
-  module _ (nodes : List ℕ) (from count : ℕ) (room : from + count ≤ length nodes) where
-    pub among_part : among false (take count (drop from nodes)) ≡ any (λ i. eqb (get_or nodes (from + i) 0) v) count
-    among_part = by_both _ _
-        (λ h. let z = hit_by (take count (drop from nodes)) false refl h in
-        let u : z.at < count = omega (arith, z.below, part_length nodes from count room) in
-        any_i (λ i. eqb (get_or nodes (from + i) 0) v) count z.at u (ap (λ (x : ℕ). eqb x v) (sym (part_get nodes from count z.at u)) ∙ z.passes))
-        (λ h. let z = any_e (λ i. eqb (get_or nodes (from + i) 0) v) count h in
-        hits (take count (drop from nodes)) false z.at (omega (arith, z.below, part_length nodes from count room))
-        (ap (λ (x : ℕ). eqb x v) (part_get nodes from count z.at z.below) ∙ z.passes))
-
-    -- as a range of the array has it
-    pub among_range : (size : ℕ) → size ≡ count → among false (take size (drop from nodes)) ≡ any (λ i. eqb (get_or nodes (from + i) 0) v) count
-    among_range size e = rw e among_part
+  -- of those in front
+  pub among_front : (nodes : List ℕ) (count : ℕ) → count ≤ length nodes → among false (take count nodes) ≡ any (is nodes) count
+  among_front nodes count room = by_both _ _
+      (λ h. let z = hit_by (take count nodes) false refl h in
+      let u : z.at < count = omega (arith, z.below, length-take-le count nodes room) in
+      any_i (is nodes) count z.at u (ap (λ (x : ℕ). eqb x v) (sym (get_or-take count nodes z.at 0 u)) ∙ z.passes))
+      (λ h. let z = any_e (is nodes) count h in
+      hits (take count nodes) false z.at (omega (arith, z.below, length-take-le count nodes room))
+      (ap (λ (x : ℕ). eqb x v) (get_or-take count nodes z.at 0 z.below) ∙ z.passes))

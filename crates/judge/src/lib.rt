@@ -1,7 +1,7 @@
 // The judge of a log. It reads the log alone: each rule is one pass over the entries, in file order or by rising moments.
 #![tactic(auto)]
 
-ghost use Rattle.std.specs.Prelude.{◌≡◌, ◌≤◌, ◌<◌, ◌*◌, ℕ, length};
+ghost use Rattle.std.specs.Prelude.{◌≡◌, ◌≤◌, ◌<◌, ℕ, length};
 ghost use Rattle.call_log.specs.Decode.{entry_at};
 ghost use Rattle.judge.specs.Inner.Entries.{entries_in};
 ghost use Rattle.judge.specs.Inner.Order.{Fields, EndsKept, Whole, is_full};
@@ -63,32 +63,32 @@ fn moment_rules(entries: &[[u8; ENTRY_LENGTH]], slots: u8) -> Result<(), Fault>
     ensures { verdict_in result ≡ moment_rules_of (entries_in entries.now) (length entries.now) slots }
 {
     match entries.len() {
-        0..=8 => moment_rules_in::<8, 72>(entries, slots),
-        9..=32 => moment_rules_in::<32, 288>(entries, slots),
-        _ => moment_rules_in::<256, 2304>(entries, slots),
+        0..=8 => moment_rules_in::<8>(entries, slots),
+        9..=32 => moment_rules_in::<32>(entries, slots),
+        _ => moment_rules_in::<256>(entries, slots),
     }
 }
 
-// The same in arrays for the keys of so many entries, and for the nodes of eight queues and of all pushes, in nine rows of that width: Rattle computes
-// no const argument.
-fn moment_rules_in<const WIDTH: usize, const NODES: usize>(
+// The same in arrays for the keys of so many entries, for the nodes of each of eight queues, and for those of all pushes.
+fn moment_rules_in<const WIDTH: usize>(
     entries: &[[u8; ENTRY_LENGTH]],
     slots: u8,
 ) -> Result<(), Fault>
     requires fields { Fields (entries_in entries.now) (length entries.now) }
     requires ends { EndsKept (entries_in entries.now) (length entries.now) }
-    requires roomy { (length entries.now ≤ WIDTH) × (WIDTH ≤ 256) × (NODES ≡ 9 * WIDTH) }
+    requires roomy { (length entries.now ≤ WIDTH) × (WIDTH ≤ 256) }
     ensures { verdict_in result ≡ moment_rules_of (entries_in entries.now) (length entries.now) slots }
 {
     let mut keys = [0; WIDTH];
-    let mut nodes = [0; NODES];
+    let mut queues = [[0; WIDTH]; 8];
+    let mut nodes = [0; WIDTH];
     let sorted = match order::by_moment(entries, &mut keys) {
         Ok(sorted) => sorted,
         Err(at) => return fault(Rule::Moments, at),
     };
     let keys = &keys[..sorted.count];
     let watch = nodes::watched(entries, sorted.count);
-    if let Some(at) = replay::first_unlawful(entries, keys, &mut nodes, WIDTH, watch) {
+    if let Some(at) = replay::first_unlawful(entries, keys, &mut queues, &mut nodes, watch) {
         return fault(Rule::Contents, at);
     }
     last_rules(entries, slots, keys, sorted.full)

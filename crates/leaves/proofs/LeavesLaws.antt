@@ -21,7 +21,6 @@ use Rattle.fields.specs.Inner.Ends.{lo_of, hi_of, ends_after}
 use Rattle.keys.specs.Inner.Keys.{index_at}
 use Rattle.judge.specs.Inner.Order.{instant, Ordered}
 use Rattle.judge.specs.Inner.Orders.{has_order}
-use Rattle.judge.specs.Inner.Replay.{held_in}
 use Rattle.judge.proofs.ReplayLaws.{still, other_is, own_is}
 use Rattle.judge.proofs.RowLaws.{moved_is, bounds}
 use Rattle.leaves.specs.Inner.Lies.{LiesIn}
@@ -36,13 +35,6 @@ pub record Lying (f : ℕ → Entry) (n : ℕ) (keys : List ℕ) (k q : ℕ) (ro
 pub lying_start : (f : ℕ → Entry) (n : ℕ) (keys : List ℕ) (q : ℕ) (row : List ℕ) → length row ≡ 256 → Lying f n keys 0 q row 0
 lying_start f n keys q row h = record { holds = slice_empty 0 row ∙ sym (before_start f n q); low = omega arith; high = omega arith; long = h }
 
--- a row that begins at 0
-from_0 : (row : List ℕ) (s : ℕ) → held_in row 0 s ≡ slice (lo_of s) (hi_of s) row
-from_0 row s =
-    let a : 0 + lo_of s ≡ lo_of s = omega arith in
-    let b : 0 + hi_of s ≡ hi_of s = omega arith in
-    ap (λ (i : ℕ). slice i (0 + hi_of s) row) a ∙ ap (λ (i : ℕ). slice (lo_of s) i row) b
-
 module _ (f : ℕ → Entry) (n : ℕ) (keys : List ℕ) (count : ℕ) (o : Ordered f n keys count) (q : ℕ) (row : List ℕ) (s : ℕ) where
   module _ (k : ℕ) (u : k < count) (h : Lying f n keys k q row s) (e : Entry) (is : e ≡ f (index_at keys k)) where
     pub lying_other : (e.queue ≡ q → ⊥) → Lying f n keys (k + 1) q row s
@@ -56,19 +48,13 @@ module _ (f : ℕ → Entry) (n : ℕ) (keys : List ℕ) (count : ℕ) (o : Orde
 
     pub lying_own : e.queue ≡ q → hi_of s < 256 → Lying f n keys (k + 1) q (set row (hi_of s) e.node) (ends_after (what e) s)
     lying_own d room = let b = bounds (what e) s h.low (omega arith) in record {
-      holds = sym (from_0 (set row (hi_of s) e.node) (ends_after (what e) s))
-          ∙ ap (λ (i : ℕ). held_in (set row i e.node) 0 (ends_after (what e) s)) zero_plus
-          ∙ moved_is row 0 s e.node h.low (omega (arith, h.long)) (omega arith) (what e)
-          ∙ ap (applied (what e) e.node) (from_0 row s ∙ h.holds) ∙ sym after
+      holds = moved_is row s e.node h.low (omega (arith, h.long)) (omega arith) (what e) ∙ ap (applied (what e) e.node) h.holds ∙ sym after
           ∙ ap (λ (x : ℕ). before f n q (instant keys x)) (sym (add-one k));
       low = b.low;
       high = omega (arith, b.high, h.high);
       long = length-set row (hi_of s) e.node ∙ h.long;
     }
       where
-        zero_plus : hi_of s ≡ 0 + hi_of s
-        zero_plus = omega arith
-
         after : before f n q (instant keys (suc k)) ≡ applied (what e) e.node (before f n q (instant keys k))
         after = subst (λ (x : Entry). x.queue ≡ q → before f n q (instant keys (suc k)) ≡ applied (what x) x.node (before f n q (instant keys k)))
             (sym is)

@@ -1,18 +1,17 @@
--- A queue's nodes between two places of a row, and the nodes that were pushed.
-use Rattle.std.specs.Prelude.{◌≡◌, Bool, true, not, List, ℕ, ◌+◌, ◌<◌, eqb, get_or}
+-- A queue's nodes between two places of its row, and the nodes that were pushed.
+use Rattle.std.specs.Prelude.{◌≡◌, Bool, true, false, not, ◌||◌, List, ℕ, ◌<◌, eqb, fold}
 use Rattle.std.proofs.Math.Seq.{slice}
 use Rattle.call_log.specs.declared.Entry.{Entry}
 use Rattle.call_log.specs.declared.What.TheVariants.{Pushed}
 use Rattle.call_log.specs.Numbers.{what, same}
-use Rattle.rules.specs.Search.{any}
 use Rattle.fields.specs.Inner.Ends.{lo_of, hi_of}
 
-abbrev pub held_in : List ℕ → ℕ → ℕ → List ℕ
-held_in nodes row s = slice (row + lo_of s) (row + hi_of s) nodes
+abbrev pub held_in : List ℕ → ℕ → List ℕ
+held_in row s = slice (lo_of s) (hi_of s) row
 
--- a node is none of the c that lie from a place on
-abbrev pub new_in : List ℕ → ℕ → ℕ → ℕ → Bool
-new_in nodes from c v = not (any (λ i. eqb (get_or nodes (from + i) 0) v) c)
+-- a node is none of these
+abbrev pub new_in : List ℕ → ℕ → Bool
+new_in nodes v = not (fold (λ hit x. hit || eqb x v) false nodes)
 
 -- no two pushes of a log are of one node
 abbrev pub Differ : (ℕ → Entry) → ℕ → Type 0

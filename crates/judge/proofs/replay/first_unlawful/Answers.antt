@@ -10,7 +10,7 @@ use Rattle.rules.specs.Judge.{first4}
 use Rattle.judge.specs.Inner.Entries.{entries_in}
 use Rattle.judge.proofs.EntriesLaws.{some_is, none_is}
 use Rattle.judge.proofs.ReplayLaws.{worst_is, none_worst}
-use Rattle.judge.proofs.RowLaws.{replay_start, told, wrong_is, added_low}
+use Rattle.judge.proofs.RowLaws.{replay_start, told, wrong_is}
 use Rattle.judge.proofs.replay.first_unlawful.Goals as goal
 
 -- a truth value added to a count
@@ -19,55 +19,40 @@ one_more true c x e = omega (arith, e)
 one_more false c x e = omega (arith, e)
 
 pub loop-key-init : goal.loop-key-init
-loop-key-init c =
+loop-key-init g c =
     let a = c.args in
-    let p = c.requires in
-    replay_start a.watch (entries_in a.entries.now) (length a.entries.now) a.keys.now a.width a.nodes.now p.differ p.roomy.2
+    replay_start a.watch (entries_in a.entries.now) (length a.entries.now) a.keys.now _ a.queues.now a.nodes.now c.requires.differ c.told-queues c.requires.rows c.told-nodes
 
 pub lawful-requires : goal.lawful-requires
-lawful-requires c =
+lawful-requires g c =
     let p = c.requires in
     let s = c.loop-key.invariant in
     let below = c.loop-key-test.true in
-    let t = told _ _ _ _ p.ordered _ below _ _ _ _ _ s p.roomy.0 p.roomy.1 p.fields _ c.from-e.ensures in
-    let few = added_low _ _ _ _ p.ordered _ below _ _ _ _ _ s p.roomy.0 p.roomy.1 p.fields in
-    let narrow = p.roomy.1 in
-    rw c.from-q.ensures (
-      omega (arith, t.high, s.nodes_long),
-      omega (arith, t.high, t.few, narrow),
-      omega (arith, few, s.nodes_long),
-      omega (arith, few, narrow),
-    )
+    let t = told _ _ _ _ p.ordered _ below _ _ _ _ _ _ s p.roomy.0 p.roomy.1 p.fields _ c.from-e.ensures in
+    rw c.from-q.ensures (omega (arith, t.high, s.rows_long _ t.queue), omega (arith, t.few))
 
 pub returns-then-not-lawful : goal.returns-then-not-lawful
-returns-then-not-lawful c =
+returns-then-not-lawful g c =
     let p = c.requires in
     let s = c.loop-key.invariant in
     let below = c.loop-key-test.true in
-    let t = told _ _ _ _ p.ordered _ below _ _ _ _ _ s p.roomy.0 p.roomy.1 p.fields _ c.from-e.ensures in
-    let wrong = wrong_is _ _ _ _ p.ordered _ below _ _ _ _ _ s p.roomy.0 p.roomy.1 p.fields
+    let t = told _ _ _ _ p.ordered _ below _ _ _ _ _ _ s p.roomy.0 p.roomy.1 p.fields _ c.from-e.ensures in
+    let wrong = wrong_is _ _ _ _ p.ordered _ below _ _ _ _ _ _ s p.roomy.0 p.roomy.1 p.fields
     (sym ((rw c.from-q.ensures at c.lawful.ensures) ∙ t.ok) ∙ c.if-not-lawful.true) in
     some_is (length c.args.entries.now) (first4 (entries_in c.args.entries.now) (length c.args.entries.now)) _ (worst_is _ _ _ _ p.ordered _ below wrong s.fine)
     (p.ordered.index _ below)
 
-pub bounds-nodes-row : goal.bounds-nodes-row
-bounds-nodes-row c =
-    let p = c.requires in
-    let s = c.loop-key.invariant in
-    let t = told _ _ _ _ p.ordered _ c.loop-key-test.true _ _ _ _ _ s p.roomy.0 p.roomy.1 p.fields _ c.from-e.ensures in
-    rw c.from-q.ensures (omega (arith, t.high, s.nodes_long))
-
 pub loop-key-preserved : goal.loop-key-preserved
-loop-key-preserved c =
+loop-key-preserved g c =
     let p = c.requires in
     let s = c.loop-key.invariant in
     let below = c.loop-key-test.true in
-    let t = told _ _ _ _ p.ordered _ below _ _ _ _ _ s p.roomy.0 p.roomy.1 p.fields _ c.from-e.ensures in
+    let t = told _ _ _ _ p.ordered _ below _ _ _ _ _ _ s p.roomy.0 p.roomy.1 p.fields _ c.from-e.ensures in
     let fine = sym ((rw c.from-q.ensures at c.lawful.ensures) ∙ t.ok) ∙ c.if-not-lawful.false in
     rw (one_more _ c.loop-key.c _ c.from-c.ensures, c.pushed.ensures, c.moved.ensures, c.from-q.ensures) (t.turn fine)
 
 pub returns : goal.returns
-returns c =
+returns g c =
     let a = c.args in
     let l = c.loop-key in
     let n = length a.entries.now in

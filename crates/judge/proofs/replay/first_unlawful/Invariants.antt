@@ -6,4 +6,4 @@ use Rattle.judge.proofs.RowLaws.{Replayed}
 use Rattle.judge.proofs.replay.first_unlawful.Given as goal
 
 abbrev pub invariant-loop-key : goal.invariant-loop-key
-invariant-loop-key l = Replayed l.watch (entries_in l.entries) (length l.entries) l.keys l.width l.key-index l.nodes l.ends l.c
+invariant-loop-key g l = Replayed l.watch (entries_in l.entries) (length l.entries) l.keys g.row.WIDTH l.key-index l.queues l.nodes l.ends l.c

@@ -2,14 +2,12 @@
 use mathlib.Core.Path.{◌≡◌, sym, ap, ◌∙◌}
 use mathlib.Core.Bool.{Bool, not}
 use mathlib.Core.List.{List}
-use Prim.Native.Nat.{ℕ, ◌+◌, ◌-◌}
-use native.Mathlib.Omega.{arith}
+use Prim.Native.Nat.{ℕ}
 use Rattle.call_log.specs.declared.What.{What}
 use Rattle.call_log.specs.declared.What.TheVariants.{Pushed, BottomNode, BottomNil}
 use Rattle.rules.specs.Rules.{lawful}
 use Rattle.fields.specs.Inner.Ends.{lo_of, hi_of}
 use Rattle.judge.specs.Inner.Replay.{held_in}
-use Rattle.judge.proofs.AmongLaws.{among_range}
 use Rattle.judge.proofs.DequeLaws.{content_last, content_empty}
 use Rattle.judge.proofs.replay.lawful.Goals as goal
 
@@ -21,17 +19,17 @@ of_kind new node held x w did r is told h = h ∙ ap (λ (y : What). lawful new 
 pub returns-in-Pushed : goal.returns-in-Pushed
 returns-in-Pushed c =
     let a = c.args in
-    of_kind _ a.e.node (held_in a.nodes.now a.row a.ends) Pushed _ _ _ c.in-Pushed.is c.what.ensures
-    (ap not (c.among.ensures ∙ among_range a.e.node a.nodes.now a.from a.count c.requires.2 (a.from + a.count - a.from) (omega arith)))
+    of_kind _ a.e.node (held_in a.row.now a.ends) Pushed _ _ _ c.in-Pushed.is c.what.ensures
+    (ap not c.among.ensures)
 
 pub returns-then-lo-hi : goal.returns-then-lo-hi
 returns-then-lo-hi c =
     let a = c.args in
-    of_kind _ a.e.node (held_in a.nodes.now a.row a.ends) BottomNode _ _ _ c.in-BottomNode.is c.what.ensures
-    (content_last a.nodes.now (a.row + lo_of a.ends) (a.row + hi_of a.ends) a.e.node c.if-lo-hi.true c.requires.0)
+    of_kind _ a.e.node (held_in a.row.now a.ends) BottomNode _ _ _ c.in-BottomNode.is c.what.ensures
+    (content_last a.row.now (lo_of a.ends) (hi_of a.ends) a.e.node c.if-lo-hi.true c.requires.0)
 
 pub returns-in-BottomNil : goal.returns-in-BottomNil
 returns-in-BottomNil c =
     let a = c.args in
-    of_kind _ a.e.node (held_in a.nodes.now a.row a.ends) BottomNil _ _ _ c.in-BottomNil.is c.what.ensures
-    (content_empty a.nodes.now (a.row + lo_of a.ends) (a.row + hi_of a.ends) c.requires.0)
+    of_kind _ a.e.node (held_in a.row.now a.ends) BottomNil _ _ _ c.in-BottomNil.is c.what.ensures
+    (content_empty a.row.now (lo_of a.ends) (hi_of a.ends) c.requires.0)
