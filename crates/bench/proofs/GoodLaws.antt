@@ -192,22 +192,26 @@ module _ (s : List ℕ) (bytes : Bytes s) (shape : Shape) (e : reading_of (file_
     log = [];
   }
 
-  module _ (from : ℕ) (place : from ≡ step_place shape.processes shape.calls 0) where
+  module _ (from to : ℕ) (place : from ≡ step_place shape.processes shape.calls 0) (ends : to ≡ step_place shape.processes shape.calls shape.steps) where
     at : from ≡ step_place (processes_in s) (calls_in s) 0
     at =
         place ∙ ap (λ (x : Shape). step_place x.processes x.calls 0) is_shape ∙ ap (λ (n : ℕ). step_place n (length f.calls) 0) processes
         ∙ ap (λ (n : ℕ). step_place (processes_in s) n 0) calls
 
-    pub schedule_fits : from + shape.steps ≤ length s
-    schedule_fits = omega (arith, at, steps, (good_passes s f is_good).0.whole)
+    -- it has as many bytes as the file says
+    many : to ≡ from + shape.steps
+    many = omega (arith, place, ends)
+
+    pub schedule_fits : to ≤ length s
+    schedule_fits = omega (arith, many, at, steps, (good_passes s f is_good).0.whole)
 
     -- the part of the file that the program plays is the schedule
     abbrev schedule : List ℕ
-    schedule = take (from + shape.steps - from) (drop from s)
+    schedule = take (to - from) (drop from s)
 
     schedule_is : schedule ≡ f.schedule
     schedule_is =
-        let n : from + shape.steps - from ≡ steps_in s = omega (arith, steps) in ap (λ (k : ℕ). take k (drop from s)) n
+        let n : to - from ≡ steps_in s = omega (arith, many, steps) in ap (λ (k : ℕ). take k (drop from s)) n
         ∙ ap (λ (k : ℕ). take (steps_in s) (drop k s)) at
 
     below : (k : ℕ) → k < length schedule → get_or schedule k 0 < shape.processes

@@ -125,11 +125,10 @@ module _ (W C : ℕ) (w : PackedWord) (flat : List ℕ) (q : ℕ) (z : Stage) (r
             rw (e, slots_get C flat q h) (slots_put C q flat row whole small h (ap length k ∙ l ∙ slots_length C flat q (omega (arith, row_in C q small h))) ∙ ap (set (slots_in C flat) q) k);
       }
 
-  pub on_part : (row : List ℕ) (from : ℕ) → from ≡ slots_place C q → length flat ≡ 512 → q < 8 → C ≤ 64
-      → StepPacked W C w (take (from + C - from) (drop from flat)) z r row → StepsIn W C w flat q z r (put_mid from (from + C - from) flat row)
-  on_part row from is whole h small =
-      subst (λ (n : ℕ). StepPacked W C w (take (n + C - n) (drop n flat)) z r row → StepsIn W C w flat q z r (put_mid n (n + C - n) flat row))
-      (sym is) (on_place row whole h small)
+  pub on_part : (row : List ℕ) (from n : ℕ) → from ≡ slots_place C q → n ≡ C → length flat ≡ 512 → q < 8 → C ≤ 64
+      → StepPacked W C w (take (from + n - from) (drop from flat)) z r row → StepsIn W C w flat q z r (put_mid from (from + n - from) flat row)
+  on_part row from n is all whole h small =
+      rw (is, all) (on_place row whole h small)
 
 -- entries put into a log, in two parts
 pub put_append : (n : ℕ) (es ds : List Entry) (log : List ℕ) → put_entries n (es ++ ds) log ≡ put_entries (n + length es) ds (put_entries n es log)

@@ -113,14 +113,14 @@ module _ (w : ℕ → Word) (slots : List (List ℕ)) where
     })
 
 -- the slots of queue q in the row of all slots
-module _ (C : ℕ) (flat : List ℕ) (q from : ℕ) (is : from ≡ slots_place C q) where
-  part_is : take (from + C - from) (drop from flat) ≡ slots_of C flat q
+module _ (C : ℕ) (flat : List ℕ) (q from n : ℕ) (is : from ≡ slots_place C q) (all : n ≡ C) where
+  part_is : take (from + n - from) (drop from flat) ≡ slots_of C flat q
   part_is =
-      let e : from + C - from ≡ C = omega arith in
-      ap (λ (n : ℕ). take n (drop from flat)) e ∙ ap (λ (n : ℕ). take C (drop n flat)) is
+      let e : from + n - from ≡ C = omega (arith, all) in
+      ap (λ (k : ℕ). take k (drop from flat)) e ∙ ap (λ (k : ℕ). take C (drop k flat)) is
 
-  pub part_slots : q < 8 → take (from + C - from) (drop from flat) ≡ get_or (slots_in C flat) q []
+  pub part_slots : q < 8 → take (from + n - from) (drop from flat) ≡ get_or (slots_in C flat) q []
   part_slots h = part_is ∙ sym (slots_get C flat q h)
 
-  pub part_small : C ≤ 64 → length (take (from + C - from) (drop from flat)) ≤ 64
+  pub part_small : C ≤ 64 → length (take (from + n - from) (drop from flat)) ≤ 64
   part_small h = omega (arith, ap length part_is, length-take C (drop (slots_place C q) flat))

@@ -64,7 +64,7 @@ fn steps(file: &[u8], shape: Shape, slots: &mut [u16], log: &mut [u8]) -> Bench
 {
     let started = start::start(file, shape.processes);
     let from = shape.schedule_place();
-    let to = from + shape.steps as usize;
+    let to = shape.schedule_end();
     let played = loops::walk(file, shape, &file[from..to], started, false, slots, log);
     loops::close(file, shape, played, slots, log)
 }

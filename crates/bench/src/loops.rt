@@ -1,9 +1,8 @@
 // The loop of a run, over the schedule and for the closing.
-ghost use Rattle.std.specs.Prelude.{◌≡◌, ◌<◌, length};
+ghost use Rattle.std.specs.Prelude.{◌≡◌};
 ghost use Rattle.base.specs.Lists.{list_of};
 ghost use Rattle.runs.specs.Run.{close as close_of, closing_steps};
 ghost use Rattle.runs.specs.Inner.Half.{half_done};
-ghost use Rattle.runs.specs.Moment.{queue_of};
 ghost use Rattle.runfile.specs.File.{first_calls};
 ghost use Rattle.bench.specs.Inner.Layout.{process_at_in, state_in, Becomes, ToWalk, ToClose};
 ghost use Rattle.bench.specs.Inner.Walk.{walked};
@@ -12,14 +11,6 @@ use crate::turn::{Turn, step_slots};
 use crate::{Bench, CLOSING_ROUNDS};
 use records::{Process, if_so};
 use runfile::Shape;
-
-// The queue of a call, which is one of the eight.
-fn queue_in(of: Process, p: u8) -> u8
-    requires { queue_of p of.call < 8 }
-    ensures { (result ≡ queue_of p of.call) × (result < 8) }
-{
-    of.queue_of(p)
-}
 
 // A schedule, step by step. In the closing a process that is in no call is passed over, and begins none. Once the log has every call of the file no
 // process has one left, so the rest of the schedule is counted. The bench is altered where it stands: handing all of it to a step and back would
@@ -43,7 +34,7 @@ pub(crate) fn walk(
             run.steps += if_so(closing, 0, (schedule.len() - i) as u16);
             return run;
         }
-        let at = p as usize;
+        let at = usize::from(p);
         let n = run.steps;
         let of = run.processes[at].ready(file, shape, closing, n);
         if of.is_idle() {
@@ -51,8 +42,8 @@ pub(crate) fn walk(
             continue;
         }
         run.steps = n + 1;
-        let q = queue_in(of, p);
-        let on = q as usize;
+        let q = of.queue_of(p);
+        let on = usize::from(q);
         let queue = run.queues[on];
         let stepped = step_slots(shape, queue.word, slots, q, of);
         run.queues[on].word = stepped.word;

@@ -45,7 +45,7 @@ pub(crate) fn start(file: &[u8], processes: u8) -> Bench
     let mut next: u16 = 0;
     for p in 0..8u8 {
         let stop = next + share(file, processes, p);
-        all[p as usize] = waiting(next, stop);
+        all[usize::from(p)] = waiting(next, stop);
         next = stop;
     }
     let age = PackedAge { word: 0 };

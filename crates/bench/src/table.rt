@@ -33,9 +33,9 @@ pub(crate) fn fill(
 {
     *table = [0; TABLE_SIZE];
     for q in 0..processes {
-        let on = q as usize;
+        let on = usize::from(q);
         let from = slots_place(size, q);
-        let part = &slots[from..from + size as usize];
+        let part = &slots[from..from + usize::from(size)];
         put_row(table, TABLE_ROW * on, queues[on].word.into(), part);
     }
 }

@@ -23,7 +23,7 @@ pub(crate) fn step_slots(
     ensures { StepsIn shape.width shape.size word slots.old q of.stage result slots.new }
 {
     let from = slots_place(shape.size, q);
-    let to = from + shape.size as usize;
+    let to = from + usize::from(shape.size);
     let sizes = Sizes {
         width: shape.width,
         size: shape.size,

@@ -41,13 +41,10 @@ no_more false n = omega arith
 module _ (file : List ℕ) (closing : Bool) (i : ℕ) {a : Shape} {schedule : List ℕ} {state run : Bench} {slots₀ log₀ slots log : List ℕ}
     (given : ToWalk a schedule state slots₀)
     (come : Walked (sizes_in a) a.calls state.entries closing (calls_of file a) schedule log₀ (state_in a.size state slots₀) i run slots log)
-    (here : i < length schedule) where
-  abbrev process : ℕ
-  process = get_or schedule i 0
-
+    (here : i < length schedule) (process : ℕ) (is : process ≡ get_or schedule i 0) where
   -- the process is one of the run's
   below_P : process < a.processes
-  below_P = given.below i here
+  below_P = omega (arith, is, given.below i here)
 
   p_small : process < 8
   p_small = omega (arith, below_P, given.fit.processes)
@@ -63,14 +60,18 @@ module _ (file : List ℕ) (closing : Bool) (i : ℕ) {a : Shape} {schedule : Li
       → Becomes a.size run.entries log (walked_one closing a.width a.size (calls_of file a) process (state_in a.size run slots)) b slots' log'
       → Walked (sizes_in a) a.calls state.entries closing (calls_of file a) schedule log₀ (state_in a.size state slots₀) (i + 1) b slots' log'
   more {b = b} {slots' = slots'} {log' = log'} step =
-      walked_more (sizes_in a) _ _ _ (calls_of file a) schedule _ _ i _ _ _ come given.fit calls_are b slots' log' here below_P step
+      walked_more (sizes_in a) _ _ _ (calls_of file a) schedule _ _ i _ _ _ come given.fit calls_are b slots' log' here (given.below i here)
+      (rw is at step)
 
   -- the process with the call that it begins, or that it is in
   module _ {r : Process} (ready_is : r ≡ cond closing (record_in run process) (ready (calls_of file a) run.steps (record_in run process))) where
     -- its call is on one of the queues
-    q_small : is_idle r.stage ≡ false → {q : ℕ} → q ≡ queue_of process r.call → q < 8
+    on_is : {q : ℕ} → q ≡ queue_of (get_or schedule i 0) r.call → q ≡ queue_of process r.call
+    on_is e = e ∙ ap (λ (p : ℕ). queue_of p r.call) (sym is)
+
+    q_small : is_idle r.stage ≡ false → {q : ℕ} → q ≡ queue_of (get_or schedule i 0) r.call → q < 8
     q_small busy {q = q} e =
-        on_queue (sizes_in a) given.fit closing (calls_of file a) calls_are run slots log come.0.sound process below_P r ready_is busy q e
+        on_queue (sizes_in a) given.fit closing (calls_of file a) calls_are run slots log come.0.sound process below_P r ready_is busy q (on_is e)
 
     -- it is in none, and waits
     waits : is_idle r.stage ≡ true → {m : ℕ} → m ≡ cond closing 0 1
@@ -81,9 +82,16 @@ module _ (file : List ℕ) (closing : Bool) (i : ℕ) {a : Shape} {schedule : Li
         come.0.becomes.whole)
 
     -- its step, and the record that it leaves
-    module _ (busy : is_idle r.stage ≡ false) {q : ℕ} (on_q : q ≡ queue_of process r.call) {o : PackedStep} {slots' : List ℕ}
-        (stepped : StepsIn a.width a.size (get_or run.queues q fresh_held).word slots q r.stage o slots') {z : HeldProcess}
+    module _ (busy : is_idle r.stage ≡ false) {q number : ℕ} (same : q ≡ number) (call_on : number ≡ queue_of (get_or schedule i 0) r.call)
+        {o : PackedStep} {slots' : List ℕ}
+        (step : StepsIn a.width a.size (get_or run.queues q fresh_held).word slots number r.stage o slots') {z : HeldProcess}
         (left : process_in z ≡ process_after run.steps (get_or run.queues q fresh_held).resets r o.next) where
+      on_q : q ≡ queue_of process r.call
+      on_q = on_is (same ∙ call_on)
+
+      stepped : StepsIn a.width a.size (get_or run.queues q fresh_held).word slots q r.stage o slots'
+      stepped = subst (λ (n : ℕ). StepsIn a.width a.size (get_or run.queues q fresh_held).word slots n r.stage o slots') (sym same) step
+
       abbrev after : List Queue → ℕ → ℕ → Bench
       after queues entries gone = record {
         queues = queues;
@@ -102,7 +110,7 @@ module _ (file : List ℕ) (closing : Bool) (i : ℕ) {a : Shape} {schedule : Li
 
       stored_is : (n : ℕ) → stored n ≡ set run.queues q (record { word = o.word; resets = n })
       stored_is n =
-          rw (get_or-set_same run.queues q with_word fresh_held (omega (arith, come.0.becomes.whole.queues, q_small busy on_q)))
+          rw (get_or-set_same run.queues q with_word fresh_held (omega (arith, come.0.becomes.whole.queues, q_small busy (same ∙ call_on))))
           (set-set run.queues q with_word (record { word = o.word; resets = n }))
 
       stays : is_idle z.stage ≡ false
@@ -113,7 +121,7 @@ module _ (file : List ℕ) (closing : Bool) (i : ℕ) {a : Shape} {schedule : Li
           slots' stepped come.0.becomes.whole z left half)
 
       ends : {m : Told} {log' : List ℕ}
-          → Tells process run.steps run.entries r (record_in run q) (get_or run.queues q fresh_held).word (get_or run.queues q fresh_held).resets o log m log'
+          → Tells (get_or schedule i 0) run.steps run.entries r (record_in run q) (get_or run.queues q fresh_held).word (get_or run.queues q fresh_held).resets o log m log'
           → Walked (sizes_in a) a.calls state.entries closing (calls_of file a) schedule log₀ (state_in a.size state slots₀) (i + 1)
           (after (stored m.resets) (run.entries + m.more) (run.gone + m.gone)) slots' log'
       ends {m = m} {log' = log'} told =
@@ -121,7 +129,9 @@ module _ (file : List ℕ) (closing : Bool) (i : ℕ) {a : Shape} {schedule : Li
           (after l (run.entries + m.more) (run.gone + m.gone)) slots' log')
           (sym (stored_is m.resets)) (more
           (way_ends (sizes_in a) given.fit closing (calls_of file a) calls_are run slots log come.0.sound process below_P r ready_is busy q on_q o
-          slots' stepped come.0.becomes.whole z left m log' told))
+          slots' stepped come.0.becomes.whole z left m log'
+          (subst (λ (p : ℕ). Tells p run.steps run.entries r (record_in run q) (get_or run.queues q fresh_held).word
+          (get_or run.queues q fresh_held).resets o log m log') (sym is) told)))
 
 pub loop-i-init : goal.loop-i-init
 loop-i-init c = (
@@ -135,7 +145,7 @@ pub overflow_add-run : goal.overflow_add-run
 overflow_add-run c =
     omega (
       arith,
-      steps_few c.args.file.now _ _ c.requires c.loop-i.invariant.2 c.loop-i-test.true,
+      steps_few c.args.file.now _ _ c.requires c.loop-i.invariant.2 c.loop-i-test.true _ refl,
       c.loop-i.invariant.2.1,
       c.requires.few,
       c.if_so.ensures,
@@ -149,66 +159,73 @@ returns-then-shape-run c =
 
 pub overflow_add-run-then-is_idle : goal.overflow_add-run-then-is_idle
 overflow_add-run-then-is_idle c =
-    omega (arith, steps_few c.args.file.now _ _ c.requires c.loop-i.invariant.2 c.loop-i-test.true, c.loop-i.invariant.1, one_most c.args.closing)
+    omega (arith, steps_few c.args.file.now _ _ c.requires c.loop-i.invariant.2 c.loop-i-test.true _ refl, c.loop-i.invariant.1, one_most c.args.closing)
 
 pub loop-i-preserved-then-is_idle : goal.loop-i-preserved-then-is_idle
 loop-i-preserved-then-is_idle c = (
   c.loop-i.invariant.0,
   c.loop-i.invariant.1,
-  waits c.args.file.now _ _ c.requires c.loop-i.invariant.2 c.loop-i-test.true c.ready-of.ensures
+  waits c.args.file.now _ _ c.requires c.loop-i.invariant.2 c.loop-i-test.true _ c.from-at.ensures c.ready-of.ensures
       (sym c.is_idle.ensures ∙ c.if-is_idle.true) c.loop-i.invariant.1,
 )
 
-pub queue_in-q-requires : goal.queue_in-q-requires
-queue_in-q-requires c =
-    q_small c.args.file.now _ _ c.requires c.loop-i.invariant.2 c.loop-i-test.true c.ready-of.ensures
-    (sym c.is_idle.ensures ∙ c.if-is_idle.false) refl
+pub bounds-run-on : goal.bounds-run-on
+bounds-run-on c =
+    q_small c.args.file.now _ _ c.requires c.loop-i.invariant.2 c.loop-i-test.true _ c.from-at.ensures c.ready-of.ensures
+    (sym c.is_idle.ensures ∙ c.if-is_idle.false) (c.from-on.ensures ∙ c.queue_of-q.ensures)
 
 pub step_slots-stepped-requires : goal.step_slots-stepped-requires
 step_slots-stepped-requires c = (
   c.loop-i.invariant.0,
-  c.queue_in-q.ensures.1,
+  q_small c.args.file.now _ _ c.requires c.loop-i.invariant.2 c.loop-i-test.true _ c.from-at.ensures c.ready-of.ensures
+      (sym c.is_idle.ensures ∙ c.if-is_idle.false) c.queue_of-q.ensures,
   c.requires.fit.size.1,
 )
 
+pub bounds-run-on-in-loop-i : goal.bounds-run-on-in-loop-i
+bounds-run-on-in-loop-i c =
+    q_small c.args.file.now _ _ c.requires c.loop-i.invariant.2 c.loop-i-test.true _ c.from-at.ensures c.ready-of.ensures
+    (sym c.is_idle.ensures ∙ c.if-is_idle.false) (c.from-on.ensures ∙ c.queue_of-q.ensures)
+
 pub bounds-run-at-then-not-is_idle : goal.bounds-run-at-then-not-is_idle
-bounds-run-at-then-not-is_idle c = p_small c.args.file.now _ _ c.requires c.loop-i.invariant.2 c.loop-i-test.true
+bounds-run-at-then-not-is_idle c = p_small c.args.file.now _ _ c.requires c.loop-i.invariant.2 c.loop-i-test.true _ c.from-at.ensures
 
 pub bounds-run-at-in-loop-i : goal.bounds-run-at-in-loop-i
-bounds-run-at-in-loop-i c = p_small c.args.file.now _ _ c.requires c.loop-i.invariant.2 c.loop-i-test.true
+bounds-run-at-in-loop-i c = p_small c.args.file.now _ _ c.requires c.loop-i.invariant.2 c.loop-i-test.true _ c.from-at.ensures
 
 pub loop-i-preserved-then-not-is_idle : goal.loop-i-preserved-then-not-is_idle
 loop-i-preserved-then-not-is_idle c = (
   omega (arith, c.step_slots-stepped.auto.slots, c.loop-i.invariant.0),
   c.loop-i.invariant.1,
-  stays c.args.file.now _ _ c.requires c.loop-i.invariant.2 c.loop-i-test.true c.ready-of.ensures (sym c.is_idle.ensures ∙ c.if-is_idle.false)
-      c.queue_in-q.ensures.0 c.step_slots-stepped.ensures c.after-then.ensures (sym c.is_idle-in-loop-i.ensures ∙ c.if-not-is_idle.true),
+  stays c.args.file.now _ _ c.requires c.loop-i.invariant.2 c.loop-i-test.true _ c.from-at.ensures c.ready-of.ensures (sym c.is_idle.ensures ∙ c.if-is_idle.false)
+      c.from-on.ensures c.queue_of-q.ensures c.step_slots-stepped.ensures c.after-then.ensures (sym c.is_idle-in-loop-i.ensures ∙ c.if-not-is_idle.true),
 )
 
 pub invariant_of-turn : goal.invariant_of-turn
 invariant_of-turn c =
-    let few = steps_few c.args.file.now _ _ c.requires c.loop-i.invariant.2 c.loop-i-test.true in
-    let p = get_or c.args.schedule.now c.loop-i.i 0 in
+    let few = steps_few c.args.file.now _ _ c.requires c.loop-i.invariant.2 c.loop-i-test.true _ refl in
+    let p = c.from-at.result in
     let l = c.loop-i.run in
     let counted = c.loop-i.invariant.2.0.counted in
-    let small = c.queue_in-q.ensures.1 in record {
+    let small = q_small c.args.file.now _ _ c.requires c.loop-i.invariant.2 c.loop-i-test.true _ c.from-at.ensures c.ready-of.ensures
+    (sym c.is_idle.ensures ∙ c.if-is_idle.false) (c.from-on.ensures ∙ c.queue_of-q.ensures) in record {
       few = (
         omega (arith, few),
         omega (
           arith,
           few,
-          held_b2 l l.entries counted p (p_small c.args.file.now _ _ c.requires c.loop-i.invariant.2 c.loop-i-test.true),
+          held_b2 l l.entries counted p (p_small c.args.file.now _ _ c.requires c.loop-i.invariant.2 c.loop-i-test.true _ c.from-at.ensures),
           ap (λ (x : Process). x.b2) c.ready-of.ensures,
           same_b2 (calls_of c.args.file.now c.args.shape) l.steps (record_in l p) c.args.closing,
         ),
-        omega (arith, few, held_b2 l l.entries counted c.queue_in-q.result small),
-        omega (arith, few, held_resets l l.entries counted c.queue_in-q.result small),
+        omega (arith, few, held_b2 l l.entries counted c.from-on.result small),
+        omega (arith, few, held_resets l l.entries counted c.from-on.result small),
       );
     }
 
 pub overflow_add-run-in-loop-i-2 : goal.overflow_add-run-in-loop-i-2
 overflow_add-run-in-loop-i-2 c =
-    let few = steps_few c.args.file.now _ _ c.requires c.loop-i.invariant.2 c.loop-i-test.true in
+    let few = steps_few c.args.file.now _ _ c.requires c.loop-i.invariant.2 c.loop-i-test.true _ refl in
     let told = c.tell-told.ensures in
     omega (arith, few, c.loop-i.invariant.2.0.counted.logged, told.more, entries_few told.over)
 
@@ -217,18 +234,18 @@ overflow_add-run-in-loop-i-3 c =
     let l = c.loop-i.run in
     omega (
       arith,
-      steps_few c.args.file.now _ _ c.requires c.loop-i.invariant.2 c.loop-i-test.true,
+      steps_few c.args.file.now _ _ c.requires c.loop-i.invariant.2 c.loop-i-test.true _ refl,
       c.loop-i.invariant.2.0.counted.gone,
       c.tell-told.ensures.gone,
-      gone_most (process_in c.ready-of.result) (get_or l.queues c.queue_in-q.result fresh_held).resets c.step_slots-stepped.result.next,
+      gone_most (process_in c.ready-of.result) (get_or l.queues c.from-on.result fresh_held).resets c.step_slots-stepped.result.next,
     )
 
 pub loop-i-preserved : goal.loop-i-preserved
 loop-i-preserved c = (
   omega (arith, c.step_slots-stepped.auto.slots, c.loop-i.invariant.0),
   c.loop-i.invariant.1,
-  ends c.args.file.now _ _ c.requires c.loop-i.invariant.2 c.loop-i-test.true c.ready-of.ensures (sym c.is_idle.ensures ∙ c.if-is_idle.false)
-      c.queue_in-q.ensures.0 c.step_slots-stepped.ensures c.after-then.ensures c.tell-told.ensures,
+  ends c.args.file.now _ _ c.requires c.loop-i.invariant.2 c.loop-i-test.true _ c.from-at.ensures c.ready-of.ensures (sym c.is_idle.ensures ∙ c.if-is_idle.false)
+      c.from-on.ensures c.queue_of-q.ensures c.step_slots-stepped.ensures c.after-then.ensures c.tell-told.ensures,
 )
 
 pub returns : goal.returns

@@ -14,8 +14,8 @@ loop-p-init c = record { whole = refl; begins = refl; small = omega arith; each 
 
 pub loop-p-preserved : goal.loop-p-preserved
 loop-p-preserved c =
-    script_more (first_lengths c.args.file.now c.args.processes) _ _ _ _ _ c.loop-p.invariant c.loop-p-test.true c.share.ensures
-    c.waiting.ensures
+    rw c.from.ensures (script_more (first_lengths c.args.file.now c.args.processes) _ _ _ _ _ c.loop-p.invariant c.loop-p-test.true c.share.ensures
+    c.waiting.ensures)
 
 pub returns : goal.returns
 returns c =

@@ -22,11 +22,13 @@ loop-q-preserved c =
     let w = c.into in
     let from = c.slots_place-from.result in
     let is = c.slots_place-from.ensures in
-    let part = take (from + a.size - from) (drop from a.slots.now) in
-    let small = part_small a.size a.slots.now l.q from is c.requires.1 in
-    let row = ap (λ (x : Word). table_row x part) w.ensures ∙ ap (table_row _) (part_slots a.size a.slots.now l.q from is below) in
+    let n = c.from.result in
+    let all = c.from.ensures in
+    let part = take (from + n - from) (drop from a.slots.now) in
+    let small = part_small a.size a.slots.now l.q from n is all c.requires.1 in
+    let row = ap (λ (x : Word). table_row x part) (rw c.from-on.ensures at w.ensures) ∙ ap (table_row _) (part_slots a.size a.slots.now l.q from n is all below) in
     let filled = row_filled (word_in a.queues) (slots_in a.size a.slots.now) l.q (table_row w.result part) l.table row l.invariant in
-    rw c.put_row.ensures (filled (omega (arith, below)) (omega arith))
+    rw (c.put_row.ensures, c.from-on.ensures) (filled (omega (arith, below)) (omega arith))
 
 pub returns : goal.returns
 returns c =
