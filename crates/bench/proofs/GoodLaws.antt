@@ -232,7 +232,6 @@ module _ (s : List ℕ) (bytes : Bytes s) (shape : Shape) (e : reading_of (file_
             subst (λ (x : State). total x.bench.processes + b₀.entries ≤ shape.calls) (sym (starts b₀ flat₀ d none))
             (room _ 0 b₀.entries (start_bounded f) z.1 all_calls);
         few = omega (arith, ap (λ (x : Bench). x.steps) d, ap length schedule_is, in_ranges.steps);
-        all_slots = ap length none;
         fit = fits;
         sound = subst (λ (x : Sizes). Sound x (state_in C b₀ flat₀)) (sym sizes_are)
             (subst (Sound (sizes_of f)) (sym (starts b₀ flat₀ d none)) (sound_fresh (sizes_of f) (fit f in_ranges) (start f) (start_fresh f in_ranges)));
@@ -258,15 +257,14 @@ module _ (s : List ℕ) (bytes : Bytes s) (shape : Shape) (e : reading_of (file_
         unfolding close
         played_state = at_closing 0 (omega arith)
 
-        pub to_close : length flat₁ ≡ 512 → ToClose shape b₁ flat₁
-        to_close all = record {
+        pub to_close : ToClose shape b₁ flat₁
+        to_close = record {
           whole = g.whole;
           counted = held_counted C 0 log₀ (played f) b₁ flat₁ log₁ becomes_played (played_kept f);
           left = subst (λ (x : Bench). total x.processes + b₁.entries ≤ shape.calls) (sym becomes_played.bench)
               (room _ _ b₁.entries (played_bounded f) becomes_played.count all_calls);
           six = subst (λ (x : Bench). (p : ℕ) → steps_left (process_at x p).stage ≤ 6) (sym becomes_played.bench) (played_sixes f).six;
           few = omega (arith, ap (λ (x : Bench). x.steps) becomes_played.bench, schedule_steps f, in_ranges.steps);
-          all_slots = all;
           fit = fits;
           sound = sound_held (sizes_in shape) 0 log₀ (played f) b₁ flat₁ log₁ becomes_played
               (subst (λ (x : Sizes). Sound x (played f)) (sym sizes_are) (sound f in_ranges (played f) played_state));
@@ -286,13 +284,12 @@ module _ (s : List ℕ) (bytes : Bytes s) (shape : Shape) (e : reading_of (file_
     entries_few : length (closed f).log ≤ length f.calls
     entries_few = omega (arith, entries_most f, in_ranges.count)
 
-    pub ends : length flat₂ ≡ 512 → Ends shape b₂ flat₂
-    ends l = record {
+    pub ends : Ends shape b₂ flat₂
+    ends = record {
       whole = k.whole;
       counted = held_counted C 0 log₀ (closed f) b₂ flat₂ log₂ k (closed_kept f);
       processes = few_processes;
       size = small;
-      all_slots = l;
     }
 
     ran : (buffer : List ℕ) → 5 + 12 * shape.calls ≤ length buffer → run_of s (length buffer) ≡ finished f (closed f)

@@ -43,7 +43,7 @@ pub struct Bench {
 fn finish(
     shape: Shape,
     state: Bench,
-    slots: &[u16],
+    slots: &[u16; ALL_SLOTS],
     buffer: &mut [u8],
     report: &mut [u16; 4],
     table: &mut [u16; TABLE_SIZE],
@@ -58,7 +58,7 @@ fn finish(
 }
 
 // The steps of a good file, of its schedule and then of the closing, from eight fresh queues.
-fn steps(file: &[u8], shape: Shape, slots: &mut [u16], log: &mut [u8]) -> Bench
+fn steps(file: &[u8], shape: Shape, slots: &mut [u16; ALL_SLOTS], log: &mut [u8]) -> Bench
     requires { (reading_of (file_of file.now) ≡ Ok shape) × (slots.old ≡ replicate all_slots 0) }
     ensures { Becomes shape.size 0 log.old (closed (record_in file.now)) result slots.new log.new }
 {

@@ -9,7 +9,7 @@ ghost use Rattle.bench.specs.Inner.Walk.{walked};
 
 use crate::turn::{Turn, step_slots};
 use crate::{Bench, CLOSING_ROUNDS};
-use records::{Process, if_so};
+use records::{ALL_SLOTS, Process, if_so};
 use runfile::Shape;
 
 // A schedule, step by step. In the closing a process that is in no call is passed over, and begins none. Once the log has every call of the file no
@@ -21,7 +21,7 @@ pub(crate) fn walk(
     schedule: &[u8],
     state: Bench,
     closing: bool,
-    slots: &mut [u16],
+    slots: &mut [u16; ALL_SLOTS],
     log: &mut [u8],
 ) -> Bench
     requires { ToWalk shape schedule.now state slots.old }
@@ -85,7 +85,7 @@ pub(crate) fn close(
     file: &[u8],
     shape: Shape,
     state: Bench,
-    slots: &mut [u16],
+    slots: &mut [u16; ALL_SLOTS],
     log: &mut [u8],
 ) -> Bench
     requires { ToClose shape state slots.old }

@@ -2,11 +2,11 @@
 ghost use Rattle.std.specs.Prelude.{◌≡◌, ◌+◌, ◌≤◌, length};
 ghost use Rattle.base.specs.Bytes.{put_at};
 ghost use Rattle.base.specs.Lists.{list_of};
-ghost use Rattle.bench.specs.Inner.Layout.{all_slots, slots_in, words_table};
+ghost use Rattle.bench.specs.Inner.Layout.{slots_in, words_table};
 ghost use Rattle.runs.specs.Run.{table_row, table_size};
 
 use crate::Queue;
-use records::{TABLE_ROW, TABLE_SIZE, slots_place};
+use records::{ALL_SLOTS, TABLE_ROW, TABLE_SIZE, slots_place};
 use word::Word;
 
 // Puts a queue's row into the table: bottom, top, tag and its slots.
@@ -26,9 +26,9 @@ pub(crate) fn fill(
     processes: u8,
     size: u8,
     queues: [Queue; 8],
-    slots: &[u16],
+    slots: &[u16; ALL_SLOTS],
 )
-    requires { (length slots.now ≡ all_slots) × (size ≤ 64) × (processes ≤ 8) }
+    requires { (size ≤ 64) × (processes ≤ 8) }
     ensures { table.new ≡ list_of table_size (words_table processes queues (slots_in size slots.now)) }
 {
     *table = [0; TABLE_SIZE];

@@ -1,12 +1,12 @@
 // One step of a run, through the step of the queue.
 ghost use Rattle.std.specs.Prelude.{◌≡◌, ◌≤◌, ◌<◌, length};
 ghost use Rattle.records.specs.Inner.Records.{process_in};
-ghost use Rattle.bench.specs.Inner.Layout.{all_slots, ended_in, put_entries, StepsIn, Tells};
+ghost use Rattle.bench.specs.Inner.Layout.{ended_in, put_entries, StepsIn, Tells};
 ghost use Rattle.runs.specs.Turn.{entries_in};
 
 use crate::Queue;
 use call_log::Entry;
-use records::{Process, if_so, slots_place};
+use records::{ALL_SLOTS, Process, if_so, slots_place};
 use runfile::Shape;
 use steps::{PackedStep, PackedWord};
 use word::Sizes;
@@ -15,11 +15,11 @@ use word::Sizes;
 pub(crate) fn step_slots(
     shape: Shape,
     word: PackedWord,
-    slots: &mut [u16],
+    slots: &mut [u16; ALL_SLOTS],
     q: u8,
     of: Process,
 ) -> PackedStep
-    requires { (length slots.old ≡ all_slots) × (q < 8) × (shape.size ≤ 64) }
+    requires { (q < 8) × (shape.size ≤ 64) }
     ensures { StepsIn shape.width shape.size word slots.old q of.stage result slots.new }
 {
     let from = slots_place(shape.size, q);

@@ -1,5 +1,4 @@
 -- `run_good` meets its contract.
-use borrow.Author.Rules.{rules}
 use Rattle.bench.proofs.GoodLaws.{refusal_gives, gives_8, gives_0, ends}
 use Rattle.bench.proofs.run_good.Goals as goal
 
@@ -12,7 +11,7 @@ returns-then-not-has_room c =
 
 pub finish-requires : goal.finish-requires
 finish-requires c =
-    ends c.args.file.now (λ i. (c.type_inv.file i).fits) c.args.shape c.requires _ _ _ _ c.steps-closed.ensures (search rules)
+    ends c.args.file.now (λ i. (c.type_inv.file i).fits) c.args.shape c.requires _ _ _ _ c.steps-closed.ensures
 
 pub returns : goal.returns
 returns c =

@@ -18,7 +18,6 @@ walk-played-requires c = to_walk c.args.file.now (λ i. (c.type_inv.file i).fits
 pub close-requires : goal.close-requires
 close-requires c = to_close c.args.file.now (λ i. (c.type_inv.file i).fits) c.args.shape c.requires.0 _ _ c.schedule_place-from.ensures.0 c.schedule_end-to.ensures.0
     c.start-started.result c.start-started.ensures c.args.slots.now c.requires.1 _ _ _ _ c.walk-played.ensures
-    (c.walk-played.auto.slots ∙ ap length c.requires.1)
 
 pub returns : goal.returns
 returns c = becomes_closed c.args.file.now (λ i. (c.type_inv.file i).fits) c.args.shape c.requires.0 _ _ c.schedule_place-from.ensures.0 c.schedule_end-to.ensures.0

@@ -7,7 +7,7 @@ use Rattle.call_log.specs.Encode.{head_bytes}
 use Rattle.runfile.specs.File.{most_size}
 use Rattle.runfile.specs.declared.Shape.{Shape}
 use Rattle.runs.specs.Run.{table_size, table_at}
-use Rattle.bench.specs.Inner.Layout.{bench_in, Whole, all_slots, slots_in}
+use Rattle.bench.specs.Inner.Layout.{bench_in, Whole, slots_in}
 use Rattle.runs.specs.Inner.Counted.{Counted}
 use Rattle.bench.specs.declared.Bench.{Bench as HeldBench}
 
@@ -24,4 +24,3 @@ pub record Ends (shape : Shape) (b : HeldBench) (flat : List ℕ) : Type 0 where
   pub counted : Counted b.entries (bench_in b)
   pub processes : shape.processes ≤ 8
   pub size : shape.size ≤ most_size
-  pub all_slots : length flat ≡ all_slots

@@ -106,7 +106,6 @@ pub record ToWalk (shape : Shape) (schedule : List ℕ) (b : HeldBench) (flat : 
   pub counted : Counted b.entries (bench_in b)
   pub left : total (bench_in b).processes + b.entries ≤ shape.calls
   pub few : b.steps + length schedule ≤ 4144
-  pub all_slots : length flat ≡ all_slots
   pub fit : Fit (sizes_in shape)
   pub sound : Sound (sizes_in shape) (state_in shape.size b flat)
   pub below : (k : ℕ) → k < length schedule → get_or schedule k 0 < shape.processes
@@ -118,7 +117,6 @@ pub record ToClose (shape : Shape) (b : HeldBench) (flat : List ℕ) : Type 0 wh
   pub left : total (bench_in b).processes + b.entries ≤ shape.calls
   pub six : (p : ℕ) → steps_left (process_at (bench_in b) p).stage ≤ 6
   pub few : b.steps ≤ 4096
-  pub all_slots : length flat ≡ all_slots
   pub fit : Fit (sizes_in shape)
   pub sound : Sound (sizes_in shape) (state_in shape.size b flat)
 

@@ -135,7 +135,6 @@ module _ (file : List ℕ) (closing : Bool) (i : ℕ) {a : Shape} {schedule : Li
 
 pub loop-i-init : goal.loop-i-init
 loop-i-init c = (
-  c.requires.all_slots,
   c.if_so-idle.ensures,
   walked_start (sizes_in c.args.shape) c.args.shape.calls c.args.closing (calls_of c.args.file.now c.args.shape)
       c.args.schedule.now _ _ _ c.requires.whole c.requires.counted c.requires.sound c.requires.left,
@@ -145,8 +144,8 @@ pub overflow_add-run : goal.overflow_add-run
 overflow_add-run c =
     omega (
       arith,
-      steps_few c.args.file.now _ _ c.requires c.loop-i.invariant.2 c.loop-i-test.true _ refl,
-      c.loop-i.invariant.2.1,
+      steps_few c.args.file.now _ _ c.requires c.loop-i.invariant.1 c.loop-i-test.true _ refl,
+      c.loop-i.invariant.1.1,
       c.requires.few,
       c.if_so.ensures,
       no_more c.args.closing (length c.args.schedule.now - c.loop-i.i),
@@ -155,66 +154,63 @@ overflow_add-run c =
 pub returns-then-shape-run : goal.returns-then-shape-run
 returns-then-shape-run c =
     walked_all (sizes_in c.args.shape) _ _ c.args.closing (calls_of c.args.file.now c.args.shape) c.args.schedule.now
-    _ _ _ _ _ _ c.loop-i.invariant.2 _ (inr c.if-shape-run.true) c.if_so.ensures
+    _ _ _ _ _ _ c.loop-i.invariant.1 _ (inr c.if-shape-run.true) c.if_so.ensures
 
 pub overflow_add-run-then-is_idle : goal.overflow_add-run-then-is_idle
 overflow_add-run-then-is_idle c =
-    omega (arith, steps_few c.args.file.now _ _ c.requires c.loop-i.invariant.2 c.loop-i-test.true _ refl, c.loop-i.invariant.1, one_most c.args.closing)
+    omega (arith, steps_few c.args.file.now _ _ c.requires c.loop-i.invariant.1 c.loop-i-test.true _ refl, c.loop-i.invariant.0, one_most c.args.closing)
 
 pub loop-i-preserved-then-is_idle : goal.loop-i-preserved-then-is_idle
 loop-i-preserved-then-is_idle c = (
   c.loop-i.invariant.0,
-  c.loop-i.invariant.1,
-  waits c.args.file.now _ _ c.requires c.loop-i.invariant.2 c.loop-i-test.true _ c.from-at.ensures c.ready-of.ensures
-      (sym c.is_idle.ensures ∙ c.if-is_idle.true) c.loop-i.invariant.1,
+  waits c.args.file.now _ _ c.requires c.loop-i.invariant.1 c.loop-i-test.true _ c.from-at.ensures c.ready-of.ensures
+      (sym c.is_idle.ensures ∙ c.if-is_idle.true) c.loop-i.invariant.0,
 )
 
 pub bounds-run-on : goal.bounds-run-on
 bounds-run-on c =
-    q_small c.args.file.now _ _ c.requires c.loop-i.invariant.2 c.loop-i-test.true _ c.from-at.ensures c.ready-of.ensures
+    q_small c.args.file.now _ _ c.requires c.loop-i.invariant.1 c.loop-i-test.true _ c.from-at.ensures c.ready-of.ensures
     (sym c.is_idle.ensures ∙ c.if-is_idle.false) (c.from-on.ensures ∙ c.queue_of-q.ensures)
 
 pub step_slots-stepped-requires : goal.step_slots-stepped-requires
 step_slots-stepped-requires c = (
-  c.loop-i.invariant.0,
-  q_small c.args.file.now _ _ c.requires c.loop-i.invariant.2 c.loop-i-test.true _ c.from-at.ensures c.ready-of.ensures
+  q_small c.args.file.now _ _ c.requires c.loop-i.invariant.1 c.loop-i-test.true _ c.from-at.ensures c.ready-of.ensures
       (sym c.is_idle.ensures ∙ c.if-is_idle.false) c.queue_of-q.ensures,
   c.requires.fit.size.1,
 )
 
 pub bounds-run-on-in-loop-i : goal.bounds-run-on-in-loop-i
 bounds-run-on-in-loop-i c =
-    q_small c.args.file.now _ _ c.requires c.loop-i.invariant.2 c.loop-i-test.true _ c.from-at.ensures c.ready-of.ensures
+    q_small c.args.file.now _ _ c.requires c.loop-i.invariant.1 c.loop-i-test.true _ c.from-at.ensures c.ready-of.ensures
     (sym c.is_idle.ensures ∙ c.if-is_idle.false) (c.from-on.ensures ∙ c.queue_of-q.ensures)
 
 pub bounds-run-at-then-not-is_idle : goal.bounds-run-at-then-not-is_idle
-bounds-run-at-then-not-is_idle c = p_small c.args.file.now _ _ c.requires c.loop-i.invariant.2 c.loop-i-test.true _ c.from-at.ensures
+bounds-run-at-then-not-is_idle c = p_small c.args.file.now _ _ c.requires c.loop-i.invariant.1 c.loop-i-test.true _ c.from-at.ensures
 
 pub bounds-run-at-in-loop-i : goal.bounds-run-at-in-loop-i
-bounds-run-at-in-loop-i c = p_small c.args.file.now _ _ c.requires c.loop-i.invariant.2 c.loop-i-test.true _ c.from-at.ensures
+bounds-run-at-in-loop-i c = p_small c.args.file.now _ _ c.requires c.loop-i.invariant.1 c.loop-i-test.true _ c.from-at.ensures
 
 pub loop-i-preserved-then-not-is_idle : goal.loop-i-preserved-then-not-is_idle
 loop-i-preserved-then-not-is_idle c = (
-  omega (arith, c.step_slots-stepped.auto.slots, c.loop-i.invariant.0),
-  c.loop-i.invariant.1,
-  stays c.args.file.now _ _ c.requires c.loop-i.invariant.2 c.loop-i-test.true _ c.from-at.ensures c.ready-of.ensures (sym c.is_idle.ensures ∙ c.if-is_idle.false)
+  c.loop-i.invariant.0,
+  stays c.args.file.now _ _ c.requires c.loop-i.invariant.1 c.loop-i-test.true _ c.from-at.ensures c.ready-of.ensures (sym c.is_idle.ensures ∙ c.if-is_idle.false)
       c.from-on.ensures c.queue_of-q.ensures c.step_slots-stepped.ensures c.after-then.ensures (sym c.is_idle-in-loop-i.ensures ∙ c.if-not-is_idle.true),
 )
 
 pub invariant_of-turn : goal.invariant_of-turn
 invariant_of-turn c =
-    let few = steps_few c.args.file.now _ _ c.requires c.loop-i.invariant.2 c.loop-i-test.true _ refl in
+    let few = steps_few c.args.file.now _ _ c.requires c.loop-i.invariant.1 c.loop-i-test.true _ refl in
     let p = c.from-at.result in
     let l = c.loop-i.run in
-    let counted = c.loop-i.invariant.2.0.counted in
-    let small = q_small c.args.file.now _ _ c.requires c.loop-i.invariant.2 c.loop-i-test.true _ c.from-at.ensures c.ready-of.ensures
+    let counted = c.loop-i.invariant.1.0.counted in
+    let small = q_small c.args.file.now _ _ c.requires c.loop-i.invariant.1 c.loop-i-test.true _ c.from-at.ensures c.ready-of.ensures
     (sym c.is_idle.ensures ∙ c.if-is_idle.false) (c.from-on.ensures ∙ c.queue_of-q.ensures) in record {
       few = (
         omega (arith, few),
         omega (
           arith,
           few,
-          held_b2 l l.entries counted p (p_small c.args.file.now _ _ c.requires c.loop-i.invariant.2 c.loop-i-test.true _ c.from-at.ensures),
+          held_b2 l l.entries counted p (p_small c.args.file.now _ _ c.requires c.loop-i.invariant.1 c.loop-i-test.true _ c.from-at.ensures),
           ap (λ (x : Process). x.b2) c.ready-of.ensures,
           same_b2 (calls_of c.args.file.now c.args.shape) l.steps (record_in l p) c.args.closing,
         ),
@@ -225,30 +221,29 @@ invariant_of-turn c =
 
 pub overflow_add-run-in-loop-i-2 : goal.overflow_add-run-in-loop-i-2
 overflow_add-run-in-loop-i-2 c =
-    let few = steps_few c.args.file.now _ _ c.requires c.loop-i.invariant.2 c.loop-i-test.true _ refl in
+    let few = steps_few c.args.file.now _ _ c.requires c.loop-i.invariant.1 c.loop-i-test.true _ refl in
     let told = c.tell-told.ensures in
-    omega (arith, few, c.loop-i.invariant.2.0.counted.logged, told.more, entries_few told.over)
+    omega (arith, few, c.loop-i.invariant.1.0.counted.logged, told.more, entries_few told.over)
 
 pub overflow_add-run-in-loop-i-3 : goal.overflow_add-run-in-loop-i-3
 overflow_add-run-in-loop-i-3 c =
     let l = c.loop-i.run in
     omega (
       arith,
-      steps_few c.args.file.now _ _ c.requires c.loop-i.invariant.2 c.loop-i-test.true _ refl,
-      c.loop-i.invariant.2.0.counted.gone,
+      steps_few c.args.file.now _ _ c.requires c.loop-i.invariant.1 c.loop-i-test.true _ refl,
+      c.loop-i.invariant.1.0.counted.gone,
       c.tell-told.ensures.gone,
       gone_most (process_in c.ready-of.result) (get_or l.queues c.from-on.result fresh_held).resets c.step_slots-stepped.result.next,
     )
 
 pub loop-i-preserved : goal.loop-i-preserved
 loop-i-preserved c = (
-  omega (arith, c.step_slots-stepped.auto.slots, c.loop-i.invariant.0),
-  c.loop-i.invariant.1,
-  ends c.args.file.now _ _ c.requires c.loop-i.invariant.2 c.loop-i-test.true _ c.from-at.ensures c.ready-of.ensures (sym c.is_idle.ensures ∙ c.if-is_idle.false)
+  c.loop-i.invariant.0,
+  ends c.args.file.now _ _ c.requires c.loop-i.invariant.1 c.loop-i-test.true _ c.from-at.ensures c.ready-of.ensures (sym c.is_idle.ensures ∙ c.if-is_idle.false)
       c.from-on.ensures c.queue_of-q.ensures c.step_slots-stepped.ensures c.after-then.ensures c.tell-told.ensures,
 )
 
 pub returns : goal.returns
 returns c =
     walked_end (sizes_in c.args.shape) _ _ c.args.closing (calls_of c.args.file.now c.args.shape) c.args.schedule.now
-    _ _ _ _ _ _ c.loop-i.invariant.2 c.loop-i-test.false
+    _ _ _ _ _ _ c.loop-i.invariant.1 c.loop-i-test.false

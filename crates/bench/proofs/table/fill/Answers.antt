@@ -16,7 +16,7 @@ loop-q-init c =
 
 pub loop-q-preserved : goal.loop-q-preserved
 loop-q-preserved c =
-    let below : c.loop-q.q < 8 = omega (arith, c.loop-q-test.true, c.requires.2) in
+    let below : c.loop-q.q < 8 = omega (arith, c.loop-q-test.true, c.requires.1) in
     let a = c.args in
     let l = c.loop-q in
     let w = c.into in
@@ -25,7 +25,7 @@ loop-q-preserved c =
     let n = c.from.result in
     let all = c.from.ensures in
     let part = take (from + n - from) (drop from a.slots.now) in
-    let small = part_small a.size a.slots.now l.q from n is all c.requires.1 in
+    let small = part_small a.size a.slots.now l.q from n is all c.requires.0 in
     let row = ap (λ (x : Word). table_row x part) (rw c.from-on.ensures at w.ensures) ∙ ap (table_row _) (part_slots a.size a.slots.now l.q from n is all below) in
     let filled = row_filled (word_in a.queues) (slots_in a.size a.slots.now) l.q (table_row w.result part) l.table row l.invariant in
     rw (c.put_row.ensures, c.from-on.ensures) (filled (omega (arith, below)) (omega arith))
