@@ -156,7 +156,8 @@ module _ (name a : ℕ) (ha : a < 65536) where
           ≡ words_of (at 4 name (Some a) (Some b) (Some c) fresh) t
       three t =
           two _
-          ∙ number (gap 3 name (Some a) (Some b) fresh fresh) (λ (n : Option ℕ). at 4 name (Some a) (Some b) n fresh) (λ c e. rw e) (λ n c e. rw e) c hc t
+          ∙ number (gap 3 name (Some a) (Some b) fresh fresh) (λ (n : Option ℕ). at 4 name (Some a) (Some b) n fresh)
+          (λ c e. rw e) (λ n c e. rw e) c hc t
 
       four : (d : ℕ) → d < 65536
           → words_of (gap 1 name fresh fresh fresh fresh)
@@ -164,7 +165,8 @@ module _ (name a : ℕ) (ha : a < 65536) where
           ≡ at 5 name (Some a) (Some b) (Some c) (Some d)
       four d hd =
           three _
-          ∙ number (gap 4 name (Some a) (Some b) (Some c) fresh) (λ (n : Option ℕ). at 5 name (Some a) (Some b) (Some c) n) (λ c e. rw e) (λ n c e. rw e) d hd []
+          ∙ number (gap 4 name (Some a) (Some b) (Some c) fresh) (λ (n : Option ℕ). at 5 name (Some a) (Some b) (Some c) n)
+          (λ c e. rw e) (λ n c e. rw e) d hd []
 
 -- the name of a stage, as its letters spell it
 abbrev spelt : Stage → ℕ

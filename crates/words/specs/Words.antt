@@ -1,5 +1,6 @@
 -- The words of a line stand apart by blanks; a number is 0 to 65,535, and none for a word that is no such number.
-use Rattle.std.specs.Prelude.{ℕ, ◌+◌, ◌-◌, ◌*◌, Bool, true, false, cond, ◌&&◌, ◌||◌, ltb, leb, eqb, List, [], ◌∷◌, get_or, set, replicate, Option, Some, None, is_some}
+use Rattle.std.specs.Prelude.{ℕ, ◌+◌, ◌-◌, ◌*◌, Bool, true, false, cond, ◌&&◌, ◌||◌, ltb, leb, eqb}
+use Rattle.std.specs.Prelude.{List, [], ◌∷◌, get_or, set, replicate, Option, Some, None, is_some}
 use Rattle.words.specs.declared.Words.{Words}
 
 -- a space, a tab or a carriage return
