@@ -16,38 +16,38 @@ const FILE_BYTES: usize = 4881;
 // if that is not given there are at most 256 entries, so that a byte stands after them, which is 13.
 const JUDGED_BYTES: usize = call_log::LONGEST_LOG + 1;
 
-// The log, or what it leaves in each queue, its counts and the judge's number.
-fn print_run(rt: &impl Print, log: &[u8], entries: u16, steps: u16, gone: u16, left: bool) {
-    if left {
-        print::left(rt, log);
-        if 0 < gone {
-            let _ = println!(rt; "gone-round: nothing is promised of these nodes");
-        }
-    } else {
-        print::entries(rt, log, entries);
+// What is printed of a run before its counts: the entries of its log, or the nodes that they leave in each queue.
+#[derive(Clone, Copy)]
+enum Shows {
+    Log,
+    Left,
+}
+
+// Runs a file, and prints what is asked for, the counts and the judge's number.
+fn run_file(rt: &impl Print, file: &[u8], shows: Shows) {
+    let mut buffer = [0u8; call_log::LONGEST_LOG];
+    let mut report = [0u16; 4];
+    let mut table = [0u16; bench::TABLE_SIZE];
+    let log = bench::run(file, &mut buffer, &mut report, &mut table);
+    // four numbers, the first of them why a file is refused: the C interface hands out the same, and `HandsBack` says so of `bench::run`
+    let [refused, entries, steps, gone] = report;
+    if refused != 0 {
+        let _ = println!(rt; "refused {refused}");
+        return;
+    }
+    match shows {
+        Shows::Log => print::entries(rt, log, entries),
+        Shows::Left => print::left(rt, log, gone),
     }
     let (verdict, _) = rules::numbers(judge::judge(log));
     let _ = println!(rt; "entries {entries} steps {steps} gone-round {gone} judge {verdict}");
 }
 
-fn run_file(rt: &impl Print, file: &[u8], left: bool) {
-    let mut buffer = [0u8; call_log::LONGEST_LOG];
-    let mut report = [0u16; 4];
-    let mut table = [0u16; bench::TABLE_SIZE];
-    let log = bench::run(file, &mut buffer, &mut report, &mut table);
-    let [refused, entries, steps, gone] = report;
-    if refused == 0 {
-        print_run(rt, log, entries, steps, gone, left);
-    } else {
-        let _ = println!(rt; "refused {refused}");
-    }
-}
-
 // Runs the file on standard input.
-fn run(rt: &HostRuntime, left: bool) {
+fn run(rt: &HostRuntime, shows: Shows) {
     let mut file = [0u8; FILE_BYTES];
     if let Some(n) = stdio::read(rt, &mut rt.stdin(), &mut file) {
-        run_file(rt, &file[..n], left);
+        run_file(rt, &file[..n], shows);
     }
 }
 
@@ -63,7 +63,7 @@ fn judge(rt: &HostRuntime) {
 // Does what one word asks.
 fn asked(rt: &HostRuntime, word: &[u8]) {
     match word {
-        b"left" => run(rt, true),
+        b"left" => run(rt, Shows::Left),
         b"judge" => judge(rt),
         b"help" => print::usage(&rt.stdout()),
         _ => print::usage(&rt.stderr()),
@@ -79,7 +79,7 @@ fn main(rt: HostRuntime) {
     let mut word = [0u8; 8];
     let n = rt.arg(1, &mut word).unwrap_or(0); // a longer word is none that is known
     if !has_word(&rt, 1) {
-        run(&rt, false);
+        run(&rt, Shows::Log);
     } else if !has_word(&rt, 2) {
         asked(&rt, &word[..n]);
     } else {

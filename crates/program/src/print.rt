@@ -23,10 +23,13 @@ fn left_in(rt: &impl Print, log: &[u8], queue: u8) {
     let _ = println!(rt; "{}", if nodes.is_empty() { " none" } else { "" });
 }
 
-// What is left in each queue below P, a line each.
-pub(crate) fn left(rt: &impl Print, log: &[u8]) {
+// What is left in each queue below P, a line each, and a line more where takes have gone round.
+pub(crate) fn left(rt: &impl Print, log: &[u8], gone: u16) {
     for queue in 0..base::byte_at(log, 1) {
         left_in(rt, log, queue);
+    }
+    if 0 < gone {
+        let _ = println!(rt; "gone-round: nothing is promised of these nodes");
     }
 }
 

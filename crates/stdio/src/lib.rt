@@ -14,6 +14,7 @@ pub fn read<R: Read>(rt: &impl Eprint, from: &mut R, buffer: &mut [u8]) -> Optio
     ensures { IfSome result (λ n. IsPrefixLen n buffer.new) }
 {
     let mut n = 0;
+    // it goes on by as many bytes as a read gives; std's `read_to_end` wants a heap, and `read_exact` doesn't say how many bytes a short input has
     while n < buffer.len() {
         match from.read(&mut buffer[n..]) {
             Ok(0) => break,
