@@ -24,10 +24,46 @@ enum Stands {
     Bytes,
 }
 
-// A number among the bytes: its sign, or its first digit where it has none, and its value so far.
+// What a case does with its bytes: it runs them as a run file, judges them as a log, or only reads them as a run file.
+#[derive(Clone, Copy)]
+enum Does {
+    Run,
+    Judge,
+    Read,
+}
+
+impl From<u8> for Does {
+    fn from(letter: u8) -> Does {
+        match letter {
+            b'r' => Does::Run,
+            b'j' => Does::Judge,
+            _ => Does::Read,
+        }
+    }
+}
+
+// What a number among the bytes says: the length of the buffer, so many bytes 0, or a byte.
+#[derive(Clone, Copy)]
+enum Says {
+    Room,
+    Zeros,
+    Byte,
+}
+
+impl From<u8> for Says {
+    fn from(sign: u8) -> Says {
+        match sign {
+            b'=' => Says::Room,
+            b'+' => Says::Zeros,
+            _ => Says::Byte,
+        }
+    }
+}
+
+// A number among the bytes: what it says by its sign, and its value so far.
 #[derive(Clone, Copy)]
 struct Number {
-    sign: u8,
+    says: Says,
     value: u16,
 }
 
@@ -35,7 +71,7 @@ struct Number {
 #[derive(Clone, Copy)]
 struct Case {
     stands: Stands,
-    letter: u8,
+    does: Does,
     length: u16,
     room: u16,
     number: Option<Number>,
@@ -54,7 +90,7 @@ impl Case {
     fn fresh() -> Case {
         Case {
             stands: Stands::Letter,
-            letter: 0,
+            does: Does::Read,
             length: 0,
             room: call_log::LONGEST_LOG as u16,
             number: None,
@@ -63,22 +99,26 @@ impl Case {
 
     // A sign begins a number, and a digit begins it or goes on with it.
     fn number_goes_on(&mut self, c: u8) {
-        let begun = self.number.unwrap_or(Number { sign: c, value: 0 });
+        let sign = Says::from(c);
+        let begun = self.number.unwrap_or(Number {
+            says: sign,
+            value: 0,
+        });
         self.number = Some(Number {
-            sign: if c < b'0' { c } else { begun.sign },
+            says: if c < b'0' { sign } else { begun.says },
             value: longer(begun.value, c),
         });
     }
 
-    // What a number says: the length of the buffer, so many bytes 0, or a byte.
+    // Does what a number says.
     fn number_ends(&mut self, file: &mut [u8; FILE_BYTES]) {
-        let Some(Number { sign, value }) = self.number.take() else {
+        let Some(Number { says, value }) = self.number.take() else {
             return;
         };
-        match sign {
-            b'=' => self.room = value,
-            b'+' => self.length = self.length.wrapping_add(value),
-            _ => {
+        match says {
+            Says::Room => self.room = value,
+            Says::Zeros => self.length = self.length.wrapping_add(value),
+            Says::Byte => {
                 if let Some(place) = file.get_mut(usize::from(self.length)) {
                     *place = base::low(value);
                 }
@@ -90,10 +130,10 @@ impl Case {
     // Tries the case that a line said.
     fn tries(&self, rt: &impl Print, file: &[u8]) {
         let n = usize::from(self.length).min(file.len());
-        match self.letter {
-            b'r' => show::run(rt, &file[..n], self.room),
-            b'j' => show::judged(rt, &file[..n]),
-            _ => show::read(rt, &file[..n]),
+        match self.does {
+            Does::Run => show::run(rt, &file[..n], self.room),
+            Does::Judge => show::judged(rt, &file[..n]),
+            Does::Read => show::read(rt, &file[..n]),
         }
         let _ = println!(rt);
     }
@@ -102,7 +142,7 @@ impl Case {
     fn line_goes_on(&mut self, rt: &impl Print, file: &mut [u8; FILE_BYTES], c: u8) {
         match (self.stands, c) {
             (Stands::Letter, _) => {
-                self.letter = c;
+                self.does = Does::from(c);
                 self.stands = Stands::Blank;
             }
             (Stands::Blank, _) => self.stands = Stands::Name,
@@ -132,6 +172,7 @@ fn all(rt: &impl Print, text: &[u8]) {
 }
 
 // Reads until the buffer is full, the input ends or a read fails, and answers how many bytes it put at the start of the buffer.
+// It is not `stdio::read`, and may not become it: a read that fails ends the cases here without a word, and there it says why and gives no bytes.
 fn read_full<R: Read>(from: &mut R, buffer: &mut [u8]) -> usize
     ensures { result ≤ length buffer.new }
 {

@@ -13,29 +13,25 @@ pub(crate) fn judged(rt: &impl Print, log: &[u8]) {
     let _ = print!(rt; " judge {number} entry {entry}");
 }
 
-// The counts, the judge's number and entry, bottom, top, tag and first slot of queue 0, and the log's bytes.
-fn ran(rt: &impl Print, log: &[u8], counts: [u16; 3], table: [u16; bench::TABLE_SIZE]) {
-    let [entries, steps, gone] = counts;
-    let _ = print!(rt; " entries {entries} steps {steps} gone-round {gone}");
-    judged(rt, log);
-    let [bottom, top, tag, slot, ..] = table;
-    let _ = print!(rt; " bottom {bottom} top {top} tag {tag} slot {slot} log");
-    each(rt, log);
-}
-
-// Runs a file with so many bytes of buffer for its log.
+// Runs a file with so many bytes of buffer for its log: the counts, the judge's number and entry, bottom, top, tag and first slot of queue 0, and the
+// log's bytes.
 pub(crate) fn run(rt: &impl Print, file: &[u8], room: u16) {
     let mut buffer = [0u8; call_log::LONGEST_LOG];
     let mut report = [0u16; 4];
     let mut table = [0u16; bench::TABLE_SIZE];
     let n = usize::from(room).min(buffer.len());
     let log = bench::run(file, &mut buffer[..n], &mut report, &mut table);
+    // four numbers, the first of them why a file is refused: the C interface hands out the same, and `HandsBack` says so of `bench::run`
     let [refused, entries, steps, gone] = report;
-    if refused == 0 {
-        ran(rt, log, [entries, steps, gone], table);
-    } else {
+    if refused != 0 {
         let _ = print!(rt; " refused {refused}");
+        return;
     }
+    let _ = print!(rt; " entries {entries} steps {steps} gone-round {gone}");
+    judged(rt, log);
+    let [bottom, top, tag, slot, ..] = table;
+    let _ = print!(rt; " bottom {bottom} top {top} tag {tag} slot {slot} log");
+    each(rt, log);
 }
 
 // W, C, P, and how many calls and steps a good file has.
