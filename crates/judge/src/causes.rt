@@ -51,13 +51,14 @@ fn uncaused(shelves: &[u32; 72], nil: Entry) -> bool
     requires { (nil.queue < 8) × (nil.start < 32768) }
     ensures { result ≡ uncaused_by shelves.now nil }
 {
+    // `&` and not `&&`: no branch, so that the eight processes are looked at side by side.
     let on = usize::from(nil.queue);
     let process = usize::from(nil.process);
     let from = 2 * u32::from(nil.start);
     let mut other = false;
     for p in 0..8 {
         let last = shelves[8 * on + p + 8];
-        other = other | ((p != process) & (from < last));
+        other |= (p != process) & (from < last);
     }
     let shelf = shelves[on];
     (SHELVED <= shelf) & (shelf % SHELVED <= from) & !other
@@ -74,19 +75,19 @@ pub(crate) fn first_uncaused(entries: &[[u8; ENTRY_LENGTH]], keys: &[usize]) -> 
     while j < entries.len() {
         let nil = Entry::from(&entries[j]);
         if !top_nil(nil) {
-            j = j + 1;
+            j += 1;
             continue;
         }
         let to = 2 * usize::from(nil.end) + 1;
         if let Some(next) = due(keys, k, to) {
             pass(Entry::from(&entries[next]), &mut shelves);
-            k = k + 1;
+            k += 1;
             continue;
         }
         if uncaused(&shelves, nil) {
             return Some(j);
         }
-        j = j + 1;
+        j += 1;
     }
     None
 }

@@ -16,6 +16,7 @@ pub(crate) fn first_clash(entries: &[[u8; ENTRY_LENGTH]]) -> Option<usize>
     for (i, bytes) in entries.iter().enumerate() {
         let e = Entry::from(bytes);
         let p = usize::from(e.process);
+        // `|` and not `||`: one branch an entry.
         if (e.end < last) | (e.start < own[p]) {
             return Some(i);
         }

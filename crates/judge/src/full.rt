@@ -52,6 +52,7 @@ fn unfilled_by_counts(entries: &[[u8; ENTRY_LENGTH]], slots: u8) -> Option<usize
         let e = Entry::from(bytes);
         let q = usize::from(e.queue);
         let there = counts[q];
+        // `&` and not `&&`: one branch an entry.
         if full(e) & (there / UPPER < usize::from(slots) + there % UPPER) {
             return Some(j);
         }

@@ -119,12 +119,10 @@ fn last_rules(
 fn head_right(count: u8, p: u8, slots: u8, n: usize) -> bool
     ensures { result ≡ head_right count p slots n }
 {
-    (count == call_log::SECTION_COUNT)
-        & (1 <= p)
-        & (p <= 8)
-        & (1 <= slots)
-        & (slots <= 64)
-        & (n <= call_log::MOST_ENTRIES)
+    count == call_log::SECTION_COUNT
+        && (1..=8).contains(&p)
+        && (1..=64).contains(&slots)
+        && n <= call_log::MOST_ENTRIES
 }
 
 // The judge, of any bytes.

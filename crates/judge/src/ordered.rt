@@ -10,6 +10,7 @@ pub fn in_order(log: &[u8], keys: &mut [usize; 256]) -> usize
 {
     *keys = [0; 256];
     let n = base::number_at(log, 3);
+    // `&` and not `&&`: one test, as `has_order` has it.
     if !((usize::from(n) <= call_log::MOST_ENTRIES) & (log.len() == call_log::length_of(n))) {
         return 0;
     }
