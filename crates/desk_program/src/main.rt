@@ -4,6 +4,7 @@
 
 ghost use Rattle.std.specs.Prelude.{◌≤◌};
 
+use arrayvec::ArrayVec;
 use at_desk::Queue;
 use std::io::Read;
 use word::Sizes;
@@ -13,47 +14,44 @@ mod at_desk; // the queue that is stepped
 // A right line is far shorter, unless it is filled with blanks or zeros.
 const LINE_BYTES: usize = 256;
 
-// What came on standard input: a line without the line end, which the last line may lack; a longer one than the buffer; or the end, or a read that
-// failed, of which `stdio::read` has said why. What was read of a line before it is no line.
-enum Typed<'a> {
-    Line(&'a [u8]),
-    TooLong,
-    End,
-}
+// As often as a loop goes round at most that nothing but the end of the input ends: a proved loop has to end, and nothing says that a line or the
+// lines do.
+const FOR_EVER: u64 = u64::MAX;
 
-impl<'a> Typed<'a> {
-    // A line of so many bytes, of which those that there was room for are in the buffer.
-    fn of(buffer: &'a [u8], length: usize) -> Typed<'a> {
-        if length <= buffer.len() {
-            Typed::Line(&buffer[..length])
-        } else {
-            Typed::TooLong
-        }
-    }
-}
+// A line without the line end.
+type Line = ArrayVec<u8, LINE_BYTES>;
 
-// Reads a line and no byte of the next.
-fn read_line<'a, R: Read>(rt: &impl Eprint, from: &mut R, buffer: &'a mut [u8]) -> Typed<'a> {
-    let mut length: usize = 0;
-    // a proved loop has to end, and nothing says that a line does
-    for _ in 0..u64::MAX {
+#[derive(Clone, Copy)]
+struct TooLong;
+
+// Reads a line and no byte of the next. The last line may lack the line end. There is none at the end, or where a read failed, of which
+// `stdio::read` has said why: what was read of a line before it is no line.
+fn read_line<R: Read>(rt: &impl Eprint, from: &mut R) -> Option<Result<Line, TooLong>> {
+    let mut line = Line::new();
+    for length in 0..FOR_EVER {
         let mut byte = [0u8; 1];
-        match stdio::read(rt, from, &mut byte) {
-            None => break,
-            Some(0) if length == 0 => break,
-            Some(n) if n == 0 || byte == [b'\n'] => return Typed::of(buffer, length),
-            Some(_) => {}
+        let n = stdio::read(rt, from, &mut byte)?;
+        if n == 0 && length == 0 {
+            return None;
         }
-        if length < buffer.len() {
-            buffer[length] = byte[0];
+        if n == 0 || byte == [b'\n'] {
+            let fits = length <= LINE_BYTES as u64;
+            return Some(if fits { Ok(line) } else { Err(TooLong) });
         }
-        length = length.saturating_add(1);
+        let _ = line.try_push(byte[0]); // of a line that is too long the rest is not kept
     }
-    Typed::End
+    None
 }
 
-fn too_long(rt: &impl Print) {
-    let _ = println!(rt; "not run: the line is longer than {LINE_BYTES} bytes");
+// The next line that is not too long.
+fn next_line<R: Read>(rt: &(impl Print + Eprint), from: &mut R) -> Option<Line> {
+    for _ in 0..FOR_EVER {
+        if let Ok(line) = read_line(rt, from)? {
+            return Some(line);
+        }
+        let _ = println!(rt; "not run: the line is longer than {LINE_BYTES} bytes");
+    }
+    None
 }
 
 // Answers a stage line.
@@ -74,29 +72,25 @@ fn steps<R: Read>(rt: &(impl Print + Eprint), from: &mut R, sizes: Sizes)
     let mut slots = [0u16; 64];
     let mut queue = Queue::new(sizes, &mut slots[..usize::from(sizes.size)]);
     let _ = println!(rt; "{queue}");
-    for _ in 0..u64::MAX {
-        let mut buffer = [0u8; LINE_BYTES];
-        match read_line(rt, from, &mut buffer) {
-            Typed::Line(line) => answer(rt, &mut queue, line),
-            Typed::TooLong => too_long(rt),
-            Typed::End => break,
-        }
+    for _ in 0..FOR_EVER {
+        let Some(line) = next_line(rt, from) else {
+            break;
+        };
+        answer(rt, &mut queue, line.as_slice());
     }
 }
 
 // Takes the line of W and C, and after a right one all that follow.
 fn desk<R: Read>(rt: &(impl Print + Eprint), from: &mut R) {
-    for _ in 0..u64::MAX {
-        let mut buffer = [0u8; LINE_BYTES];
-        match read_line(rt, from, &mut buffer) {
-            Typed::Line(line) => match lines::read_sizes(line) {
-                Ok(sizes) => return steps(rt, from, sizes),
-                Err(why) => {
-                    let _ = println!(rt; "not run: {why}");
-                }
-            },
-            Typed::TooLong => too_long(rt),
-            Typed::End => break,
+    for _ in 0..FOR_EVER {
+        let Some(line) = next_line(rt, from) else {
+            break;
+        };
+        match lines::read_sizes(line.as_slice()) {
+            Ok(sizes) => return steps(rt, from, sizes),
+            Err(why) => {
+                let _ = println!(rt; "not run: {why}");
+            }
         }
     }
 }

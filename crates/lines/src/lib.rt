@@ -9,7 +9,7 @@ mod shown; // why a line is not run, as it is said
 use word::{Sizes, Stage};
 use words::{Words, words_of};
 
-// The names, as the words of a line spell them: a 1, and the letters in base 256.
+// The names, as the words of a line spell them: a 1, and the letters in base 256. `words::Words` says why a name is a number.
 const IDLE: u64 = 0x1_49_44_4C_45;
 
 const P1: u64 = 0x1_50_31;

@@ -6,7 +6,8 @@ ghost use Rattle.words.specs.Words.{blank, spelled, counted, word_at, fed, start
 
 // What is known of a line's words so far: whether its last byte is in a word, how many have begun (6 for more), the name that the first spells,
 // and the four after it as numbers: none where a word is no number from 0 to 65,535, and 0 where no word has begun.
-// The name is kept as one number: a buffer of letters would need its length beside it, and without a heap a limit.
+// The name is one number and the count a number to 6 because the definitions `spelled` and `word_at` have them so: what a line says (`line_of`,
+// `stage_of`) and the theorem `read_back` speak of them.
 #[derive(Clone, Copy)]
 pub struct Words {
     pub inside: bool,
