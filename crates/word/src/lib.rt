@@ -19,8 +19,8 @@ pub struct Sizes {
     pub size: u8,
 }
 
-// A process is idle or at one of fourteen stages, with the numbers that it has loaded so far. The age (t, g) stays two numbers, as the table and
-// every theorem about it name them.
+// A process is idle or at one of fourteen stages, with the numbers that it has loaded so far. The age (t, g) stays two numbers, as the table
+// (`row_of`) and what is shown of it (`every_step` of theorems) name them.
 #[derive(Clone, Copy)]
 pub enum Stage {
     Idle,
