@@ -11,7 +11,7 @@ ghost use Rattle.fields.specs.Inner.Took.{took_after};
 
 use call_log::{BOTTOM_POP, DONE, Entry, FULL, LOST, NIL, NO_MOMENT, PUSH, TOP_POP, What};
 
-// Two numbers lie in one: the upper one times this, and the lower one.
+// Two numbers lie in one: the upper one times this, and the lower one. The public promise `ends_after` of `moved` speaks of the one number.
 pub const UPPER: usize = 65536;
 
 // The last step at which a call may end, by rule 1.
@@ -54,6 +54,7 @@ pub fn moment_right(wanted: bool, e: Entry) -> bool
 }
 
 // Whether the call bears a moment, was a done push, a refused one, gave no node at the top.
+// Four public tests, each with its own promise (`bears`, `same` of `Pushed` and of `Full`, `is_top_nil`), so that none takes its `What` as an argument.
 pub fn bears(e: Entry) -> bool
     ensures { result ≡ bears_is e }
 {
@@ -78,7 +79,7 @@ pub fn top_nil(e: Entry) -> bool
     matches!(e.what(), What::TopNil | What::TopLost)
 }
 
-// The moment after the last take of the call's process from its queue, where it was this before the call.
+// The moment after the last take of the call's process from its queue, where it was this before the call; 0 is none, by the public promise `took_after`.
 pub fn took_after(e: Entry, took: u32) -> u32
     ensures { result ≡ took_after e took }
 {

@@ -25,6 +25,7 @@ fn shelf_after(e: Entry, shelf: u32) -> u32
 }
 
 // Goes past a call, whose moment is the next. Queue q's shelf lies at q, and at 8 + 8 * q + p the moment after process p's last take from it.
+// One lent array of fixed memory and no struct of two: `passed_by` and `Passable`, and the laws of shelves under them, speak of places in one list.
 fn pass(e: Entry, shelves: &mut [u32; 72])
     requires { Passable e shelves.old }
     ensures { shelves.new ≡ passed_by e shelves.old }
@@ -64,7 +65,8 @@ fn uncaused(shelves: &[u32; 72], nil: Entry) -> bool
     (SHELVED <= shelf) & (shelf % SHELVED <= from) & !other
 }
 
-// The first entry that breaks rule 5. The loop goes on in one of two ways, past a key or past an entry, so that no `for` goes over either.
+// The first entry that breaks rule 5. The loop goes on in one of two ways, past a key or past an entry: a `for` over the entries needs a second loop
+// in it past the keys that are due, which carries k from one entry to the next, and a function has one loop.
 pub(crate) fn first_uncaused(entries: &[[u8; ENTRY_LENGTH]], keys: &[usize]) -> Option<usize>
     requires { Clean (entries_in entries.now) (length entries.now) keys.now (length keys.now) }
     ensures { result ≡ found (length entries.now) (first5 (entries_in entries.now) (length entries.now)) }

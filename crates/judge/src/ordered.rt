@@ -5,6 +5,7 @@ use crate::entries_of;
 use crate::order::by_moment;
 
 // Puts the keys of a log in front, and 0 after them; gives how many there are, and none where the log's calls have no order.
+// The public promise `Orders` speaks of the count and of 0 for a log without an order, so that it is no `Option`.
 pub fn in_order(log: &[u8], keys: &mut [usize; 256]) -> usize
     ensures { Orders log.now result keys.new }
 {
