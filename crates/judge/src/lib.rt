@@ -42,6 +42,8 @@ fn entries_of(log: &[u8]) -> &[[u8; ENTRY_LENGTH]]
 }
 
 // The rules in order, each over the whole log: 1 and 2, then the others.
+// Tried: `Entries { all, ghost few, ghost fields }` for the facts of the passes; that `Fields` is a proposition (`fields-found`) stays open at
+// `IsNil` of rule 1, which goes by cases, and with `few` alone `Fields` still stands in each contract.
 fn rules(entries: &[[u8; ENTRY_LENGTH]], p: u8, slots: u8) -> Result<(), Fault>
     requires { (length entries.now ≤ 256) × (p ≤ 8) }
     ensures { verdict_in result ≡ rules_of (entries_in entries.now) (length entries.now) p slots }
