@@ -99,13 +99,10 @@ impl Case {
 
     // A sign begins a number, and a digit begins it or goes on with it.
     fn number_goes_on(&mut self, c: u8) {
-        let sign = Says::from(c);
-        let begun = self.number.unwrap_or(Number {
-            says: sign,
-            value: 0,
-        });
+        let says = Says::from(c);
+        let begun = self.number.unwrap_or(Number { says, value: 0 });
         self.number = Some(Number {
-            says: if c < b'0' { sign } else { begun.says },
+            says: if c < b'0' { says } else { begun.says },
             value: longer(begun.value, c),
         });
     }
@@ -172,7 +169,8 @@ fn all(rt: &impl Print, text: &[u8]) {
 }
 
 // Reads until the buffer is full, the input ends or a read fails, and answers how many bytes it put at the start of the buffer.
-// It is not `stdio::read`, and may not become it: a read that fails ends the cases here without a word, and there it says why and gives no bytes.
+// It is not `stdio::read`, which says why it is a loop, and may not become it: a read that fails ends the cases here without a word, and there it says
+// why and gives no bytes.
 fn read_full<R: Read>(from: &mut R, buffer: &mut [u8]) -> usize
     ensures { result ≤ length buffer.new }
 {
