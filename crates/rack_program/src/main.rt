@@ -4,7 +4,8 @@
 
 use rack::REPLY_LENGTH;
 
-// As much as is read, and as many files as are replied to: whoever packs more makes two racks. A longer rack, of whose end nothing is known, is not run.
+// As much as is read, and as many files as are replied to: whoever packs more makes two racks. A longer rack, of whose end nothing is known, is not
+// run.
 const RACK_BYTES: usize = 65536;
 
 const MOST_FILES: usize = 1024;
