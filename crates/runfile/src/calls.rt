@@ -1,6 +1,6 @@
 // Section 3's calls, each by its code and argument.
-ghost use Rattle.std.specs.Prelude.{◌≡◌, ◌+◌, ◌≤◌, length};
-ghost use Rattle.runfile.specs.File.{call_place, call_of, coded_at, call_at};
+ghost use Rattle.std.specs.Prelude.{◌≡◌};
+ghost use Rattle.runfile.specs.File.{call_of, coded_at, call_at};
 
 use crate::places::call_place;
 use crate::{Call, Refusal};
@@ -17,7 +17,6 @@ const TAKE: u8 = 3;
 pub fn call_of(processes: u8, code: u8, argument: u16) -> Result<Call, Refusal>
     ensures { result ≡ call_of processes code argument }
 {
-    let queues = u16::from(processes);
     match code {
         PUSH => if argument == 0 {
             Err(Refusal::WrongNode)
@@ -29,24 +28,12 @@ pub fn call_of(processes: u8, code: u8, argument: u16) -> Result<Call, Refusal>
         } else {
             Err(Refusal::WrongCall)
         },
-        TAKE => if argument < queues {
-            let queue = argument as u8;
-            Ok(Call::Take(queue))
-        } else {
-            Err(Refusal::WrongCall)
+        TAKE => match u8::try_from(argument) {
+            Ok(queue) if queue < processes => Ok(Call::Take(queue)),
+            _ => Err(Refusal::WrongCall),
         },
         _ => Err(Refusal::WrongCall),
     }
-}
-
-// What the bytes of call k say, where they stand in the file.
-fn coded_within(file: &[u8], processes: u8, k: u16) -> Result<Call, Refusal>
-    requires { call_place processes (k + 1) ≤ length file.now }
-    ensures { result ≡ coded_at file.now processes k }
-{
-    let at = call_place(processes, k);
-    let next = at + 1;
-    call_of(processes, file[at], joined(file[next], file[next + 1]))
 }
 
 // What the bytes of call k say; bytes past the end read as 0, and one test tells whether there are any.
@@ -55,7 +42,7 @@ pub fn coded_at(file: &[u8], processes: u8, k: u16) -> Result<Call, Refusal>
 {
     let at = call_place(processes, k);
     if at + 3 <= file.len() {
-        coded_within(file, processes, k)
+        call_of(processes, file[at], joined(file[at + 1], file[at + 2]))
     } else {
         call_of(processes, byte_at(file, at), number_at(file, at + 1))
     }
