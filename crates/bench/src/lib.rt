@@ -89,7 +89,8 @@ fn run_good(
 }
 
 // Runs a file. Gives the number of bytes of the log that it wrote at the front of the buffer, and lends back number, entries, steps and
-// gone-round takes, and the final table. This is the function that promises every byte of the buffer.
+// gone-round takes, and the final table. This is the function that promises every byte of the buffer. Report and table are arrays of numbers, and a
+// refusal is a number in them, for the C interface (include/scarpgoblet.h): `Ran` is its promise.
 pub fn run_len(
     file: &[u8],
     buffer: &mut [u8],

@@ -9,12 +9,13 @@ ghost use Rattle.bench.specs.Inner.Walk.{walked};
 
 use crate::turn::{Turn, step_slots};
 use crate::{Bench, CLOSING_ROUNDS};
-use records::{ALL_SLOTS, Process, if_so};
+use records::{ALL_SLOTS, Process};
 use runfile::Shape;
 
 // A schedule, step by step. In the closing a process that is in no call is passed over, and begins none. Once the log has every call of the file no
 // process has one left, so the rest of the schedule is counted. The bench is altered where it stands: handing all of it to a step and back would
-// cost more than the step. File and shape are no struct: `ready` alone takes both, and each clause would take it apart again.
+// cost more than the step. File and shape are no struct: `ready`, which is public (docs/PROMISES.md), takes both apart, and `ToWalk` and `ToClose` are
+// of a shape and of no file.
 pub(crate) fn walk(
     file: &[u8],
     shape: Shape,
@@ -28,10 +29,11 @@ pub(crate) fn walk(
     ensures { Becomes shape.size state.entries log.old (walked closing shape.width shape.size (first_calls file.now shape.processes shape.calls) schedule.now (state_in shape.size state slots.old)) result slots.new log.new }
 {
     let mut run = state;
-    let idle = if_so(closing, 0, 1);
+    let idle = if closing { 0 } else { 1 };
     for (i, &p) in schedule.iter().enumerate() {
         if shape.calls <= run.entries {
-            run.steps += if_so(closing, 0, (schedule.len() - i) as u16);
+            let left = if closing { 0 } else { schedule.len() - i };
+            run.steps += left as u16;
             return run;
         }
         let at = usize::from(p);
@@ -68,7 +70,8 @@ pub(crate) fn walk(
     run
 }
 
-// The half-done processes, as a set of eight bits.
+// The half-done processes, as a set of eight bits, from the highest on. By index: over `processes.iter().rev()` the invariant would be of the items
+// yielded, reversed; tried, and `overflow_mul-set` and `returns` stayed open.
 fn half_done(processes: &[Process; 8]) -> u8
     ensures { result ≡ half_done (list_of 8 (process_at_in processes.now)) }
 {

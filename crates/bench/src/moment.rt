@@ -11,6 +11,7 @@ use records::is_take;
 use runfile::Call;
 use steps::Next;
 
+// 0 and NO_MOMENT stand for no node and no moment, as in the bytes of the log: definitions `pushed_node` and `entry` of runs/specs/Moment.antt take numbers.
 fn pushed_node(call: Call) -> u16
     ensures { result ≡ pushed_node call }
 {

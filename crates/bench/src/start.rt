@@ -22,7 +22,8 @@ fn share(file: &[u8], processes: u8, p: u8) -> u16
     }
 }
 
-// A process before its first call, with the calls of its script.
+// A process before its first call, with the calls of its script. It is in no call yet, and Push(0) stands there: definition `waiting` of
+// runs/specs/State.antt holds it, and `nobody` with it.
 fn waiting(next: u16, stop: u16) -> Process
     ensures { process_in result ≡ waiting_of next stop }
 {

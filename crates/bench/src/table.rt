@@ -20,7 +20,8 @@ fn put_row(table: &mut [u16], from: usize, word: Word, part: &[u16])
     base::put(table, from + 3, part);
 }
 
-// The rest of the table is 0: the slots at and above C, and the queues that no process owns.
+// The rest of the table is 0: the slots at and above C, and the queues that no process owns. By index: of a slice that was written by
+// `chunks_exact_mut` a proof knows the length and no element, and the clause is of the elements.
 pub(crate) fn fill(
     table: &mut [u16; TABLE_SIZE],
     processes: u8,

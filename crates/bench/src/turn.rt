@@ -1,12 +1,12 @@
 // One step of a run, through the step of the queue.
-ghost use Rattle.std.specs.Prelude.{◌≡◌, ◌≤◌, ◌<◌, length};
+ghost use Rattle.std.specs.Prelude.{◌≡◌, ◌≤◌, ◌<◌};
 ghost use Rattle.records.specs.Inner.Records.{process_in};
 ghost use Rattle.bench.specs.Inner.Layout.{ended_in, put_entries, StepsIn, Tells};
 ghost use Rattle.runs.specs.Turn.{entries_in};
 
 use crate::Queue;
 use call_log::Entry;
-use records::{ALL_SLOTS, Process, if_so, slots_place};
+use records::{ALL_SLOTS, Process, slots_place};
 use runfile::Shape;
 use steps::{PackedStep, PackedWord};
 use word::Sizes;
@@ -31,17 +31,12 @@ pub(crate) fn step_slots(
     queue::step_packed(sizes, word, &mut slots[from..to], of.stage)
 }
 
-// Puts what a step ended after the n entries of the log, and gives how many entries that is.
-fn keep(log: &mut [u8], n: u16, over: Option<Entry>) -> u16
-    ensures { (log.new ≡ put_entries n (entries_in (ended_in over)) log.old) × (result ≡ length (entries_in (ended_in over))) }
+// Puts what a step ended after the n entries of the log.
+fn keep(log: &mut [u8], n: u16, over: Option<Entry>)
+    ensures { log.new ≡ put_entries n (entries_in (ended_in over)) log.old }
 {
-    let at = call_log::length_of(n);
-    match over {
-        None => 0,
-        Some(entry) => {
-            call_log::put_entry(log, at, entry);
-            1
-        }
+    if let Some(entry) = over {
+        call_log::put_entry(log, call_log::length_of(n), entry);
     }
 }
 
@@ -69,10 +64,16 @@ impl Turn {
     pub(crate) fn tell(self, log: &mut [u8], entries: u16, stepped: PackedStep) -> Told
         ensures { Tells self.p self.n entries (process_in self.of) (process_in self.owner) self.queue.word self.queue.resets stepped log.old result log.new }
     {
+        let over = self.ended(stepped.next);
+        keep(log, entries, over);
         Told {
-            more: keep(log, entries, self.ended(stepped.next)),
+            more: u16::from(over.is_some()),
             gone: self.of.gone_round(self.queue.resets, stepped.next),
-            resets: if_so(stepped.reset, self.queue.resets + 1, self.queue.resets),
+            resets: if stepped.reset {
+                self.queue.resets + 1
+            } else {
+                self.queue.resets
+            },
         }
     }
 }

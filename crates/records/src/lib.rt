@@ -7,7 +7,7 @@ mod turn; // a process before and after its step
 
 pub use crate::refusal::refuse;
 pub use crate::slots::slots_place;
-pub use crate::turn::{if_so, is_take};
+pub use crate::turn::is_take;
 use runfile::Call;
 use word::Stage;
 

@@ -37,7 +37,8 @@ fn stage_after(next: Next) -> Stage
     }
 }
 
-// Call k of a file; past the last call of the file there is none to begin.
+// Call k of a file. Past the last call of the file there is none to begin, and `first_calls` read there gives Pop (`get_or .. Call.Pop`, which `ready`
+// of crate runs begins).
 fn call_in(file: &[u8], shape: Shape, k: u16) -> Call
     ensures { result ≡ get_or (first_calls file.now shape.processes shape.calls) k Call.Pop }
 {
@@ -46,12 +47,6 @@ fn call_in(file: &[u8], shape: Shape, k: u16) -> Call
     } else {
         Call::Pop
     }
-}
-
-pub fn if_so(test: bool, yes: u16, no: u16) -> u16
-    ensures { result ≡ cond test yes no }
-{
-    if test { yes } else { no }
 }
 
 impl Process {
@@ -102,8 +97,12 @@ impl Process {
     {
         Process {
             stage: stage_after(stepped.next),
-            b2: if_so(self.stage.at_b2(), n, self.b2),
-            resets_at_t1: if_so(self.stage.at_t1(), resets, self.resets_at_t1),
+            b2: if self.stage.at_b2() { n } else { self.b2 },
+            resets_at_t1: if self.stage.at_t1() {
+                resets
+            } else {
+                self.resets_at_t1
+            },
             ..self
         }
     }

@@ -1,7 +1,5 @@
 -- `steps` meets its contract.
-use mathlib.Core.Path.{ap, ◌∙◌}
 use native.Mathlib.Omega.{arith}
-use lib.ListN.{length}
 use Rattle.bench.proofs.GoodLaws.{schedule_fits, to_walk, to_close, becomes_closed}
 use Rattle.bench.proofs.steps.Goals as goal
 

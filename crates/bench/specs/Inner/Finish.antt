@@ -1,5 +1,5 @@
 -- The last part of a run: what it finds, and what it gives.
-use Rattle.std.specs.Prelude.{ℕ, ◌≤◌, ◌≡◌, List, [], ◌∷◌, length}
+use Rattle.std.specs.Prelude.{ℕ, ◌≤◌, ◌≡◌, List, [], ◌∷◌}
 use Rattle.base.specs.Bytes.{put_at}
 use Rattle.base.specs.Lists.{list_of}
 use Rattle.call_log.specs.Decode.{log_length}

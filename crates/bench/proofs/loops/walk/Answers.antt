@@ -1,5 +1,5 @@
 -- `loops::walk` meets its contract: after i steps the bench stands for the state that the first i bytes of the schedule lead to.
-use Prim.Native.Nat.{ℕ, ◌+◌, ◌-◌, ◌≤◌, ◌<◌}
+use Prim.Native.Nat.{ℕ, ◌+◌, ◌≤◌, ◌<◌}
 use mathlib.Core.Path.{◌≡◌, refl, sym, ap, ◌∙◌, subst}
 use mathlib.Core.Bool.{Bool, true, false, cond}
 use mathlib.Core.Logic.{inr}
@@ -27,15 +27,12 @@ use Rattle.bench.proofs.LayoutLaws.{held_resets, held_b2}
 use Rattle.bench.proofs.WayLaws.{with_steps, same_b2, way_idle, on_queue, way_on, way_ends}
 use Rattle.bench.proofs.RunLaws.{Walked, walked_start, walked_more, walked_all, walked_end}
 use Rattle.bench.proofs.loops.walk.Invariants.{calls_of}
+use Rattle.bench.proofs.loops.walk.Goals.{then-closing, else-closing, then-closing-2, else-closing-2}
 use Rattle.bench.proofs.loops.walk.Goals as goal
 
 one_most : (t : Bool) → cond t 0 1 ≤ 1
 one_most true = omega arith
 one_most false = omega arith
-
-no_more : (t : Bool) (n : ℕ) → cond t 0 n ≤ n
-no_more true n = omega arith
-no_more false n = omega arith
 
 -- a turn: what the function is given, how far the loop has come, and that it is not at its end
 module _ (file : List ℕ) (closing : Bool) (i : ℕ) {a : Shape} {schedule : List ℕ} {state run : Bench} {slots₀ log₀ slots log : List ℕ}
@@ -135,26 +132,25 @@ module _ (file : List ℕ) (closing : Bool) (i : ℕ) {a : Shape} {schedule : Li
 
 pub loop-i-init : goal.loop-i-init
 loop-i-init c = (
-  c.if_so-idle.ensures,
+  elim c.if-closing.branch [ then-closing w ↦ rw w.if-closing.true w.idle-is | else-closing w ↦ rw w.if-closing.false w.idle-is ],
   walked_start (sizes_in c.args.shape) c.args.shape.calls c.args.closing (calls_of c.args.file.now c.args.shape)
       c.args.schedule.now _ _ _ c.requires.whole c.requires.counted c.requires.sound c.requires.left,
 )
 
 pub overflow_add-run : goal.overflow_add-run
 overflow_add-run c =
-    omega (
-      arith,
-      steps_few c.args.file.now _ _ c.requires c.loop-i.invariant.1 c.loop-i-test.true _ refl,
-      c.loop-i.invariant.1.1,
-      c.requires.few,
-      c.if_so.ensures,
-      no_more c.args.closing (length c.args.schedule.now - c.loop-i.i),
-    )
+    let few = steps_few c.args.file.now _ _ c.requires c.loop-i.invariant.1 c.loop-i-test.true _ refl in
+    let so_far = c.loop-i.invariant.1.1 in
+    elim c.if-closing-2.branch [
+      | then-closing-2 w ↦ omega (arith, few, so_far, c.requires.few, w.left-is)
+      | else-closing-2 w ↦ omega (arith, few, so_far, c.requires.few, w.left-is)
+    ]
 
 pub returns-then-shape-run : goal.returns-then-shape-run
 returns-then-shape-run c =
     walked_all (sizes_in c.args.shape) _ _ c.args.closing (calls_of c.args.file.now c.args.shape) c.args.schedule.now
-    _ _ _ _ _ _ c.loop-i.invariant.1 _ (inr c.if-shape-run.true) c.if_so.ensures
+    _ _ _ _ _ _ c.loop-i.invariant.1 _ (inr c.if-shape-run.true)
+    (elim c.if-closing-2.branch [ then-closing-2 w ↦ rw w.if-closing-2.true w.left-is | else-closing-2 w ↦ rw w.if-closing-2.false w.left-is ])
 
 pub overflow_add-run-then-is_idle : goal.overflow_add-run-then-is_idle
 overflow_add-run-then-is_idle c =
