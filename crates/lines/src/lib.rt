@@ -145,6 +145,7 @@ pub fn read_sizes(line: &[u8]) -> Result<Sizes, SizesWhy>
     if words.count != 3 {
         return Err(SizesWhy::NotTwo);
     }
+    // both fit a byte, as the pattern says; `u8::try_from` would have an error that cannot come
     match words.numbers {
         [Some(width @ 0..=16), Some(size @ 1..=64), ..] => Ok(Sizes {
             width: width as u8,
