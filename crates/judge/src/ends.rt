@@ -6,7 +6,7 @@ ghost use Rattle.judge.specs.Inner.Order.{Fields};
 
 use call_log::{ENTRY_LENGTH, Entry};
 
-// The first entry that breaks rule 2. An end is kept as the next step, so that 0 is none.
+// The first entry that breaks rule 2. `last` and `own` are steps from which on the next call may end, and the next of a process begin.
 pub(crate) fn first_clash(entries: &[[u8; ENTRY_LENGTH]]) -> Option<usize>
     requires { Fields (entries_in entries.now) (length entries.now) }
     ensures { result ≡ found (length entries.now) (first2 (entries_in entries.now) (length entries.now)) }
