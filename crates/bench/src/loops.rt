@@ -3,9 +3,8 @@ ghost use Rattle.std.specs.Prelude.{◌≡◌};
 ghost use Rattle.base.specs.Lists.{list_of};
 ghost use Rattle.runs.specs.Run.{close as close_of, closing_steps};
 ghost use Rattle.runs.specs.Inner.Half.{half_done};
-ghost use Rattle.runfile.specs.File.{first_calls};
 ghost use Rattle.bench.specs.Inner.Layout.{process_at_in, state_in, Becomes, ToWalk, ToClose};
-ghost use Rattle.bench.specs.Inner.Walk.{walked};
+ghost use Rattle.bench.specs.Inner.Walk.{walked_from};
 
 use crate::turn::{Turn, step_slots};
 use crate::{Bench, CLOSING_ROUNDS};
@@ -26,7 +25,7 @@ pub(crate) fn walk(
     log: &mut [u8],
 ) -> Bench
     requires { ToWalk shape schedule.now state slots.old }
-    ensures { Becomes shape.size state.entries log.old (walked closing shape.width shape.size (first_calls file.now shape.processes shape.calls) schedule.now (state_in shape.size state slots.old)) result slots.new log.new }
+    ensures { Becomes shape.size state.entries log.old (walked_from closing file.now shape schedule.now state slots.old) result slots.new log.new }
 {
     let mut run = state;
     let idle = if closing { 0 } else { 1 };

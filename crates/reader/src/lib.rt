@@ -6,16 +6,14 @@ ghost use Rattle.runfile.specs.File.{Reads};
 mod calls; // section 3's calls: the first that is wrong
 mod sections; // what refuses a section, and a file
 
+pub use runfile::{MOST_PROCESSES, MOST_SIZE};
 use runfile::{Refusal, Shape, shape_in};
 
-// Section 1's count, and the most that W, C, P, a script length and the schedule's length may be.
+// Section 1's count, which the log's format has too (crate call_log) and may have otherwise, and the most that W, a script length and the schedule's
+// length may be; for C and P, crate runfile has it.
 pub const SECTION_COUNT: u8 = 2;
 
 pub const MOST_WIDTH: u8 = 16;
-
-pub const MOST_SIZE: u8 = 64;
-
-pub const MOST_PROCESSES: u8 = 8;
 
 pub const LONGEST_SCRIPT: u8 = 32;
 

@@ -8,19 +8,21 @@ mod turn; // a process before and after its step
 pub use crate::refusal::refuse;
 pub use crate::slots::slots_place;
 pub use crate::turn::is_take;
-use runfile::Call;
+use runfile::{Call, MOST_PROCESSES, MOST_SIZE};
 use word::Stage;
 
-// C is at most this.
-const MOST_SLOTS: usize = 64;
+// C is at most this. A constant cannot call usize::from, so these are casts.
+const MOST_SLOTS: usize = MOST_SIZE as usize;
+
+const MOST_QUEUES: usize = MOST_PROCESSES as usize;
 
 // The slots of all queues lie in one row, queue by queue: slot i of queue q at C × q + i.
-pub const ALL_SLOTS: usize = 8 * MOST_SLOTS;
+pub const ALL_SLOTS: usize = MOST_QUEUES * MOST_SLOTS;
 
 // The table has a row of bottom, top, tag and as many slots as C may be for each queue.
 pub const TABLE_ROW: usize = 3 + MOST_SLOTS;
 
-pub const TABLE_SIZE: usize = 8 * TABLE_ROW;
+pub const TABLE_SIZE: usize = MOST_QUEUES * TABLE_ROW;
 
 // A process: where it stands in its call, the call, which call of the file is its next and where its script stops; and of the
 // call its start, its step B2, and the resets that its queue had at T1.

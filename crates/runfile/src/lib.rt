@@ -13,6 +13,11 @@ pub use crate::places::{
     share_place,
 };
 
+// The most that C and P may be.
+pub const MOST_SIZE: u8 = 64;
+
+pub const MOST_PROCESSES: u8 = 8;
+
 // A call of a script.
 #[derive(Clone, Copy)]
 pub enum Call {
