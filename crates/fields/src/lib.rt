@@ -11,7 +11,8 @@ ghost use Rattle.fields.specs.Inner.Took.{took_after};
 
 use call_log::{BOTTOM_POP, DONE, Entry, FULL, LOST, NIL, NO_MOMENT, PUSH, TOP_POP, What};
 
-// Two numbers lie in one: the upper one times this, and the lower one. The public promise `ends_after` of `moved` speaks of the one number.
+// Two numbers lie in one: the upper one times this, and the lower one. The public promise `ends_after` of `moved` speaks of the one number, and a pass
+// keeps one in place of two for speed.
 pub const UPPER: usize = 65536;
 
 // The last step at which a call may end, by rule 1.
@@ -32,6 +33,7 @@ fn possible(kind: u8, res: u8, with_node: bool) -> bool
 pub fn keeps_fields(p: u8, e: Entry) -> bool
     ensures { result ≡ keeps1 p e }
 {
+    // `&` and not `&&`: no branches, for nearly all entries keep all of it.
     (e.process < p)
         & (e.queue < p)
         & possible(e.kind, e.result, e.node != 0)

@@ -64,6 +64,7 @@ pub(crate) fn first_unlawful<const WIDTH: usize>(
         queues[q][here / UPPER] = e.node;
         ends[q] = moved(at, e) as u32;
         nodes[c] = e.node;
+        // `&` and not `&&`: no branch, as the node is put there in any case.
         c += usize::from(pushed(e) & watch);
     }
     None
