@@ -35,8 +35,7 @@ pub(crate) fn walk(
             run.steps += left as u16;
             return run;
         }
-        let at = usize::from(p);
-        let n = run.steps;
+        let (at, n) = (usize::from(p), run.steps);
         let of = run.processes[at].ready(file, shape, closing, n);
         if of.is_idle() {
             run.steps = n + idle;
