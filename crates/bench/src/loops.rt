@@ -11,10 +11,10 @@ use crate::{Bench, CLOSING_ROUNDS};
 use records::{ALL_SLOTS, Process};
 use runfile::Shape;
 
-// A schedule, step by step. In the closing a process that is in no call is passed over, and begins none. Once the log has every call of the file no
-// process has one left, so the rest of the schedule is counted. The bench is altered where it stands: handing all of it to a step and back would
-// cost more than the step. File and shape are no struct: `ready`, which is public (docs/PROMISES.md), takes both apart, and `ToWalk` and `ToClose` are
-// of a shape and of no file.
+// A schedule, step by step, and the closing: one function, so that there is one place that steps. In the closing a process that is in no call is
+// passed over, and begins none. Once the log has every call of the file no process has one left, so the rest of the schedule is counted. The bench is
+// altered where it stands: handing all of it to a step and back would cost more than the step. File and shape are no struct: `ready`, which is
+// public (docs/PROMISES.md), takes both apart, and `ToWalk` and `ToClose` are of a shape and of no file.
 pub(crate) fn walk(
     file: &[u8],
     shape: Shape,

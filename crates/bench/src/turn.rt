@@ -11,7 +11,7 @@ use runfile::Shape;
 use steps::{PackedStep, PackedWord};
 use word::Sizes;
 
-// The step of a queue on its part of the row of slots.
+// The step of a queue on its part of the row of slots. A shape has W and C apart, as definition `shape_of` of runfile has it.
 pub(crate) fn step_slots(
     shape: Shape,
     word: PackedWord,

@@ -30,6 +30,7 @@ pub fn entry_at(log: &[u8], i: usize) -> Entry
         return Entry::default();
     }
     let at = HEAD_LENGTH + ENTRY_LENGTH * i;
+    // tried: `array::from_fn`, whose clause gives no equation for a closure that captures the log
     let mut bytes = [0; ENTRY_LENGTH];
     for (k, byte) in bytes.iter_mut().enumerate() {
         *byte = byte_at(log, at + k);

@@ -57,6 +57,7 @@ fn uncaused(shelves: &[u32; 72], nil: Entry) -> bool
     let process = usize::from(nil.process);
     let from = 2 * u32::from(nil.start);
     let mut other = false;
+    // by index: the last takes from this queue lie among those of all
     for p in 0..8 {
         let last = shelves[8 * on + p + 8];
         other |= (p != process) & (from < last);

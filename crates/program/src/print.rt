@@ -1,6 +1,6 @@
 // What the program prints, a line at a time. A write that fails is passed over.
 
-// The entries of a log, a line each: process, queue, kind, result, node, start, end, moment.
+// The entries of a log, a line each: process, queue, kind, result, node, start, end, moment. No `Display` of an entry: this program alone prints one.
 pub(crate) fn entries(rt: &impl Print, log: &[u8], count: u16) {
     for i in 0..count {
         let of = call_log::entry_at(log, usize::from(i));

@@ -72,7 +72,8 @@ fn one(file: &[u8], log: &mut [u8], replies: &mut [u8], place: usize)
     put_reply(replies, place, report, verdict)
 }
 
-// The files of a rack from the front: a second walk over the lengths, for no file is run before the bytes are known to be a rack.
+// The files of a rack from the front: a second walk over the lengths, for no file is run before the bytes are known to be a rack. The places are carried:
+// files have lengths of their own, and of replies written by `chunks_exact_mut` a proof would know no byte.
 fn run_all(files: &[u8], log: &mut [u8], replies: &mut [u8])
     requires { Checked files.now replies.old }
     ensures { RunsAll files.now log.old replies.old log.new replies.new }

@@ -10,7 +10,7 @@ const RACK_BYTES: usize = 65536;
 
 const MOST_FILES: usize = 1024;
 
-// So many replies, a line each: the number, and the four numbers after it.
+// So many replies, a line each: the number, and the four numbers after it, where `rack` puts them for a host in C too (include/scarpgoblet.h).
 fn print_replies(rt: &impl Print, replies: &[u8], count: u16) {
     for reply in replies.chunks_exact(REPLY_LENGTH).take(usize::from(count)) {
         let _ = println!(rt;

@@ -6,7 +6,7 @@ use crate::places::call_place;
 use crate::{Call, Refusal};
 use base::{byte_at, joined, number_at};
 
-// The codes of a call.
+// The codes of a call. The log's kinds are those of another format (crate call_log).
 const PUSH: u8 = 1;
 
 const POP: u8 = 2;

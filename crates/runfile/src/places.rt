@@ -43,7 +43,8 @@ pub fn length_at(file: &[u8], p: u8) -> u8
     byte_at(file, share_place(p))
 }
 
-// How many calls stand before those of process p: the sum of the script lengths below p.
+// How many calls stand before those of process p: the sum of the script lengths below p. A byte past the end reads as 0, so that no slice of the file
+// has them all.
 pub fn calls_before(file: &[u8], p: u8) -> u16
     ensures { result ≡ calls_before file.now p }
 {

@@ -77,7 +77,7 @@ struct Case {
     number: Option<Number>,
 }
 
-// The number with one more digit, where there is room for it.
+// The number with one more digit, where there is room for it; in `words` it would be none.
 fn longer(value: u16, digit: u8) -> u16 {
     if value <= 6552 && digit.is_ascii_digit() {
         10 * value + u16::from(digit - b'0')
