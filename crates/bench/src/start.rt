@@ -44,6 +44,7 @@ pub(crate) fn start(file: &[u8], processes: u8) -> Bench
 {
     let mut all = [waiting(0, 0); 8];
     let mut next: u16 = 0;
+    // by index: of an array written by `iter_mut` a proof would know no element
     for p in 0..8u8 {
         let stop = next + share(file, processes, p);
         all[usize::from(p)] = waiting(next, stop);

@@ -51,7 +51,7 @@ pub(crate) fn first_unlawful<const WIDTH: usize>(
     ensures { result ≡ found (length entries.now) (first4 (entries_in entries.now) (length entries.now)) }
 {
     let mut ends = [0u32; 8];
-    let mut c = 0;
+    let mut c = 0; // so many are in front; memory is lent, and no list can grow
     for key in keys {
         let j = key % 256;
         let e = Entry::from(&entries[j]);
