@@ -10,9 +10,9 @@ const RACK_BYTES: usize = 65536;
 
 const MOST_FILES: usize = 1024;
 
-// So many replies, a line each: the number, and the four numbers after it, where `rack` puts them for a host in C too (include/scarpgoblet.h).
-fn print_replies(rt: &impl Print, replies: &[u8], count: u16) {
-    for reply in replies.chunks_exact(REPLY_LENGTH).take(usize::from(count)) {
+// Replies, a line each: the number, and the four numbers after it, where `rack` puts them for a host in C too (include/scarpgoblet.h).
+fn print_replies(rt: &impl Print, replies: &[u8]) {
+    for reply in replies.chunks_exact(REPLY_LENGTH) {
         let _ = println!(rt;
             "{} {} {} {} {}",
             base::byte_at(reply, 0),
@@ -28,7 +28,10 @@ fn run_rack(rt: &impl Print, files: &[u8]) {
     let mut log = [0u8; call_log::LONGEST_LOG];
     let mut replies = [0u8; REPLY_LENGTH * MOST_FILES];
     match rack::rack(files, &mut log, &mut replies) {
-        Ok(()) => print_replies(rt, &replies, base::number_at(files, 0)),
+        Ok(()) => {
+            let count = usize::from(base::number_at(files, 0)).min(MOST_FILES);
+            print_replies(rt, &replies[..REPLY_LENGTH * count]);
+        }
         Err(refusal) => {
             let _ = println!(rt; "refused {}", u8::from(refusal));
         }

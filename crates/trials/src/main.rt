@@ -67,7 +67,8 @@ struct Number {
     value: u16,
 }
 
-// What is known of a line so far, and the number that is being read, if one was begun.
+// What is known of a line so far, and the number that is being read, if one was begun. The length of the file stands apart from its bytes, for a case may
+// say more bytes than there is memory for.
 #[derive(Clone, Copy)]
 struct Case {
     stands: Stands,
