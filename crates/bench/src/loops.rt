@@ -32,7 +32,7 @@ pub(crate) fn walk(
     for (i, &p) in schedule.iter().enumerate() {
         if shape.calls <= run.entries {
             let left = if closing { 0 } else { schedule.len() - i };
-            run.steps += left as u16;
+            run.steps += left as u16; // at most 4,096
             return run;
         }
         let (at, n) = (usize::from(p), run.steps);
@@ -98,7 +98,7 @@ pub(crate) fn close(
         if set == 0 {
             return after;
         }
-        let lowest = set.trailing_zeros() as u8;
+        let lowest = set.trailing_zeros() as u8; // below 8
         after = walk(file, shape, &[lowest; 6], after, true, slots, log);
     }
     after

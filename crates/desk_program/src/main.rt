@@ -35,7 +35,7 @@ fn read_line<R: Read>(rt: &impl Eprint, from: &mut R) -> Option<Result<Line, Too
             return None;
         }
         if n == 0 || byte == [b'\n'] {
-            let fits = length <= LINE_BYTES as u64;
+            let fits = length <= LINE_BYTES as u64; // `u64` has no `From<usize>`
             return Some(if fits { Ok(line) } else { Err(TooLong) });
         }
         let _ = line.try_push(byte[0]); // of a line that is too long the rest is not kept

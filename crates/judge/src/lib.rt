@@ -29,7 +29,7 @@ fn fault(rule: Rule, entry: usize) -> Result<(), Fault>
 {
     Err(Fault {
         rule,
-        entry: entry as u16,
+        entry: entry as u16, // it fits, by the `requires`
     })
 }
 

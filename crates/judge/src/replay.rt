@@ -57,12 +57,12 @@ pub(crate) fn first_unlawful<const WIDTH: usize>(
         let e = Entry::from(&entries[j]);
         let q = usize::from(e.queue);
         let at = ends[q];
-        let here = at as usize;
+        let here = at as usize; // `usize` has no `From<u32>`
         if !lawful(&queues[q], &nodes[..c], here, e) {
             return Some(j);
         }
         queues[q][here / UPPER] = e.node;
-        ends[q] = moved(at, e) as u32;
+        ends[q] = moved(at, e) as u32; // it fits, for at most 256 are pushed
         nodes[c] = e.node;
         // `&` and not `&&`: no branch, as the node is put there in any case.
         c += usize::from(pushed(e) & watch);

@@ -39,7 +39,7 @@ fn replayed(log: &[u8], queue: u8, keys: &[usize], row: &mut [u16; 256]) -> usiz
             continue;
         }
         row[ends / UPPER] = e.node;
-        ends = fields::moved(ends as u32, e);
+        ends = fields::moved(ends as u32, e); // it fits, for at most 256 are pushed
     }
     ends
 }
@@ -58,5 +58,5 @@ pub fn left(log: &[u8], queue: u8, nodes: &mut [u16; 256]) -> Result<u16, Rule>
     let hi = ends / UPPER;
     base::put(nodes, 0, &row[lo..hi]);
     let count = hi - lo;
-    Ok(count as u16)
+    Ok(count as u16) // at most 256
 }

@@ -11,7 +11,7 @@ pub use racks::Refusal;
 // A reply has number, three counts of two bytes, and the judge's number.
 pub const REPLY_LENGTH: usize = 8;
 
-// Whether the bytes are a rack: a walk over the lengths alone.
+// Whether the bytes are a rack: a walk over the lengths alone. The place is carried, for each length says where the next one stands.
 fn is_rack(files: &[u8]) -> bool
     ensures { result ≡ is_rack (rack_of files.now) }
 {

@@ -93,7 +93,7 @@ impl Case {
             stands: Stands::Letter,
             does: Does::Read,
             length: 0,
-            room: call_log::LONGEST_LOG as u16,
+            room: call_log::LONGEST_LOG as u16, // 3,077
             number: None,
         }
     }
