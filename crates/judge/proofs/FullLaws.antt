@@ -121,7 +121,8 @@ module _ (f : ℕ → Entry) (n : ℕ) (small : n ≤ 256) (r : Fields f n) (j :
     pub queue : e.queue < 8
     pub low : get_or counts e.queue 0 < 2 ^ 25
     pub few : get_or counts e.queue 0 % 65536 ≤ 256
-    pub breaks : (same Full (what e) && ltb (get_or counts e.queue 0 / 65536) (C + get_or counts e.queue 0 % 65536)) ≡ breaks6 f C j
+    pub breaks : {full : Bool} → full ≡ same Full (what e)
+        → (full && ltb (get_or counts e.queue 0 / 65536) (C + get_or counts e.queue 0 % 65536)) ≡ breaks6 f C j
     pub turn : Counted f (j + 1) (set counts e.queue (counts_after (what e) (get_or counts e.queue 0)))
 
   pub told : (C : ℕ) (e : Entry) → e ≡ f j → Told C e
@@ -129,6 +130,6 @@ module _ (f : ℕ → Entry) (n : ℕ) (small : n ≤ 256) (r : Fields f n) (j :
     queue = queue_low;
     low = omega (arith, pops_few, pushes_few);
     few = pops_few;
-    breaks = rw (c.pushes q queue_low, c.pops q queue_low);
+    breaks = λ is. rw (is, c.pushes q queue_low, c.pops q queue_low);
     turn = counted_next;
   })

@@ -1,14 +1,14 @@
 -- `judge::causes::first_uncaused` meets its contract. The loop keeps `Shelves`: what is known of each queue after the first k moments, which lie
 -- before the ends of the entries that are left.
 use mathlib.Core.Path.{◌≡◌, sym, ap, subst, ◌∙◌}
-use mathlib.Core.Bool.{true, false, cond, ◌&&◌}
+use mathlib.Core.Bool.{Bool, true, cond, ◌&&◌}
 use mathlib.Core.List.{List}
 use Prim.Native.Nat.{ℕ, ◌+◌, ◌*◌, ◌≤◌, ◌<◌}
 use native.Mathlib.Omega.{arith}
 use borrow.Author.Tests.{ltb-true, leb-true}
 use lib.Dec.{ltb, leb}
 use lib.ListN.{length}
-use Rattle.std.specs.Prelude.{Some, None}
+use Rattle.std.specs.Prelude.{Option, Some, None}
 use Rattle.judge.specs.Inner.Entries.{entries_in}
 use Rattle.call_log.specs.declared.Entry.{Entry}
 use Rattle.base.proofs.Bools.{and_0, and_1}
@@ -96,21 +96,22 @@ loop-j-preserved-in-Some c =
 
 -- no entry is due up to the end of the call, so that what the shelves say of it is rule 5's own answer
 module _ (f : ℕ → Entry) (n : ℕ) (keys : List ℕ) (p : Clean f n keys (length keys)) (k : ℕ) (within : k ≤ length keys) (shelves : List ℕ)
-    (s : Shelves f n keys k shelves) (j : ℕ) (below : j < n) (early : Passed f n keys (length keys) p k j) (nil : Entry) (is : nil ≡ f j)
-    (none : (ltb k (length keys) && leb (moment_at keys k) (2 * nil.end + 1)) ≡ false) where
-  broken : is_top_nil (what nil) ≡ true → uncaused_by shelves nil ≡ breaks5 f n j
-  broken top = query_told f n keys (length keys) p k within shelves s j below early nil is none top
+    (s : Shelves f n keys k shelves) (j : ℕ) (below : j < n) (early : Passed f n keys (length keys) p k j) (nil : Entry) (is : nil ≡ f j) where
+  broken : {end : ℕ} → end ≡ nil.end → {due : Option ℕ}
+      → due ≡ cond (ltb k (length keys) && leb (moment_at keys k) (2 * end + 1)) (Some (index_at keys k)) None → ((i : ℕ) → due ≡ Some i → ⊥)
+      → {top : Bool} → top ≡ is_top_nil (what nil) → top ≡ true → {found : Bool} → found ≡ uncaused_by shelves nil → found ≡ breaks5 f n j
+  broken ends told not_due top_is top found_is =
+      let none = none_by _ _ _ told not_due in
+      found_is ∙ query_told f n keys (length keys) p k within shelves s j below early nil is (rw ends at none) (sym top_is ∙ top)
 
 pub returns-then-uncaused : goal.returns-then-uncaused
 returns-then-uncaused c =
     let l = c.loop-j in
     let f = entries_in c.args.entries.now in
     let n = length c.args.entries.now in
-    let below = c.loop-j-test.true in
-    let none = none_by _ _ _ c.due.ensures c.in_default.not-Some in
-    let told = broken f n _ c.requires l.k l.invariant.1 l.shelves l.invariant.3 l.j below l.invariant.4 _ c.from-nil.ensures (rw c.from.ensures at none)
-    (sym c.top_nil.ensures ∙ c.if-not-top_nil.false) in
-    pass_found (breaks5 f n) l.j n l.invariant.2 below (sym (c.uncaused.ensures ∙ told) ∙ c.if-uncaused.true)
+    let told = broken f n _ c.requires l.k l.invariant.1 l.shelves l.invariant.3 l.j c.loop-j-test.true l.invariant.4 _ c.from-nil.ensures
+    c.from.ensures c.due.ensures c.in_default.not-Some c.top_nil.ensures c.if-not-top_nil.false c.uncaused.ensures in
+    pass_found (breaks5 f n) l.j n l.invariant.2 c.loop-j-test.true (sym told ∙ c.if-uncaused.true)
 
 pub loop-j-preserved : goal.loop-j-preserved
 loop-j-preserved c =
@@ -118,12 +119,11 @@ loop-j-preserved c =
     let f = entries_in c.args.entries.now in
     let n = length c.args.entries.now in
     let below = c.loop-j-test.true in
-    let none = none_by _ _ _ c.due.ensures c.in_default.not-Some in
-    let told = broken f n _ c.requires l.k l.invariant.1 l.shelves l.invariant.3 l.j below l.invariant.4 _ c.from-nil.ensures (rw c.from.ensures at none)
-    (sym c.top_nil.ensures ∙ c.if-not-top_nil.false) in (
+    let told = broken f n _ c.requires l.k l.invariant.1 l.shelves l.invariant.3 l.j below l.invariant.4 _ c.from-nil.ensures
+    c.from.ensures c.due.ensures c.in_default.not-Some c.top_nil.ensures c.if-not-top_nil.false c.uncaused.ensures in (
       omega (arith, below),
       l.invariant.1,
-      first_next (breaks5 f n) l.j n below (sym (c.uncaused.ensures ∙ told) ∙ c.if-uncaused.false) ∙ l.invariant.2,
+      first_next (breaks5 f n) l.j n below (sym told ∙ c.if-uncaused.false) ∙ l.invariant.2,
       l.invariant.3,
       λ x u v. l.invariant.4 x (omega arith) v,
     )

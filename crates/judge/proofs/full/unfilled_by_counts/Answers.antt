@@ -1,11 +1,8 @@
 -- `judge::full::unfilled_by_counts` meets its contract. The loop keeps how many pushes and pops count on each queue, and that the first among the
 -- entries that are left is the first of all.
-use mathlib.Core.Path.{sym, ap, ◌∙◌}
-use mathlib.Core.Bool.{Bool, ◌&&◌}
-use Prim.Native.Nat.{◌+◌, ◌/◌, ◌%◌}
+use mathlib.Core.Path.{sym, ◌∙◌}
 use native.Mathlib.Omega.{arith}
-use lib.Dec.{ltb}
-use lib.ListN.{length, get_or}
+use lib.ListN.{length}
 use Rattle.judge.specs.Inner.Entries.{entries_in}
 use Rattle.rules.proofs.SearchLaws.{first_start, first_next}
 use Rattle.rules.specs.Rules.{breaks6}
@@ -25,11 +22,9 @@ returns-then-full-there c =
     let f = entries_in a.entries.now in
     let n = length a.entries.now in
     let below = c.loop-j-test.true in
-    let e = c.from-e.result in
-    let t = told f n c.requires.few c.requires.fields l.j below l.counts l.invariant.1 a.slots e c.from-e.ensures in
-    let there = get_or l.counts e.queue 0 in
-    let broken = ap (λ (b : Bool). b && ltb (there / 65536) (a.slots + there % 65536)) c.full.ensures ∙ t.breaks in
-    pass_found (breaks6 f a.slots) l.j n l.invariant.0 below (sym broken ∙ (simp (c.from-q.ensures, c.from.ensures) at c.if-full-there.true))
+    let t = told f n c.requires.few c.requires.fields l.j below l.counts l.invariant.1 a.slots c.from-e.result c.from-e.ensures in
+    pass_found (breaks6 f a.slots) l.j n l.invariant.0 below
+    (sym (t.breaks c.full.ensures) ∙ (simp (c.from-q.ensures, c.from.ensures) at c.if-full-there.true))
 
 pub counts_after-requires : goal.counts_after-requires
 counts_after-requires c =
@@ -46,12 +41,9 @@ loop-j-preserved c =
     let f = entries_in a.entries.now in
     let n = length a.entries.now in
     let below = c.loop-j-test.true in
-    let e = c.from-e.result in
-    let t = told f n c.requires.few c.requires.fields l.j below l.counts l.invariant.1 a.slots e c.from-e.ensures in
-    let there = get_or l.counts e.queue 0 in
-    let broken = ap (λ (b : Bool). b && ltb (there / 65536) (a.slots + there % 65536)) c.full.ensures ∙ t.breaks in
+    let t = told f n c.requires.few c.requires.fields l.j below l.counts l.invariant.1 a.slots c.from-e.result c.from-e.ensures in
     let none = simp (c.from-q.ensures, c.from.ensures) at c.if-full-there.false in (
-      first_next (breaks6 f a.slots) l.j n below (sym broken ∙ none) ∙ l.invariant.0,
+      first_next (breaks6 f a.slots) l.j n below (sym (t.breaks c.full.ensures) ∙ none) ∙ l.invariant.0,
       rw (c.counts_after.ensures, c.from-q.ensures) t.turn,
     )
 
