@@ -1,10 +1,10 @@
 -- The wrong programs that document 01 shuts out by name: of each, that it cannot keep the promise. A bench here is whatever keeps the promise of `run`;
 -- what keeps that of `run_len`, as the function for a host in C does, keeps it too, with the written front part of its buffer.
-use Rattle.std.specs.Prelude.{ℕ, List, length, get_or, take, replicate, ◌≡◌}
+use Rattle.std.specs.Prelude.{ℕ, Result, List, length, get_or, take, replicate, ◌≡◌}
 use Rattle.base.specs.Bytes.{Bytes}
 use Rattle.call_log.specs.Decode.{entry_at}
 use Rattle.runs.specs.{Promise.Ran, Promise.HandsBack, Run.table_size, Worked.Case, Worked.K3, Worked.room}
-use Rattle.rules.specs.{Judge.judge_of, Judge.Verdict}
+use Rattle.rules.specs.{declared.Fault.Fault, Judge.judge_of, Judge.verdict_in, Judge.Verdict}
 
 abbrev pub FrontHandedBack : Type 0
 FrontHandedBack = (file buffer : List ℕ) (written : ℕ) (buffer' report table : List ℕ) → Ran file buffer written buffer' report table
@@ -24,6 +24,10 @@ pub record Bench : Type 0 where
 pub record Judge : Type 0 where
   pub says : List ℕ → Verdict
   pub keeps : (log : List ℕ) → Bytes log → says log ≡ judge_of log
+
+-- what keeps the promise of `judge` is one: it says the verdict that its answer stands for
+abbrev pub judge_by : (answer : List ℕ → Result (Unit {0}) Fault) → ((log : List ℕ) → Bytes log → verdict_in (answer log) ≡ judge_of log) → Judge
+judge_by answer keeps = record { says = λ log. verdict_in (answer log); keeps = keeps }
 
 -- something that is so of all that a bench gives
 abbrev pub Always : Bench → (Given → Type 0) → Type 0
