@@ -6,6 +6,9 @@ use mathlib.Core.List.{List, []}
 use native.Mathlib.Omega.{arith}
 use lib.Dec.{eqb, ltb, leb}
 use lib.ListN.{length, get_or, set, length-set}
+use borrow.Author.Tests.{leb-true, lt-ltb, le-leb, le-ltb}
+use native.Mathlib.Decide.{dec_lt}
+use Rattle.base.proofs.Bools.{and_0, and_1}
 use Rattle.base.proofs.Cases.{ever, either_way}
 use Rattle.word.specs.Stages.{is_idle}
 use Rattle.word.specs.declared.Word.{Word}
@@ -18,15 +21,16 @@ use Rattle.steps.specs.declared.Next.TheVariants.{Going, Done, Node, Nil, Lost, 
 use Rattle.steps.proofs.StepLaws.{sixteen_in}
 use Rattle.word.specs.Inner.InRange.{InRange}
 use Rattle.runfile.specs.declared.Call.{Call}
+use Rattle.runfile.specs.declared.Call.TheVariants.{Push, Pop, Take}
 use Rattle.runs.specs.Moment.{queue_of, ended, gone_round, Ended, Nothing}
 use Rattle.runs.specs.State.{Process, Queue, State, queue_at, process_at}
-use Rattle.runs.specs.Turn.{ready, queue_after, process_after, entries_in, bench_after, act, idle}
+use Rattle.runs.specs.Turn.{first_stage, ready, queue_after, process_after, entries_in, bench_after, act, idle}
 use Rattle.runs.specs.Inner.Sound.{Sizes, Fit, processes, AllIn, Placed, Sound}
 use Rattle.runs.proofs.Sound.{turning_placed}
 use Rattle.records.specs.Inner.Records.{process_in}
 use Rattle.bench.specs.Inner.Layout.{fresh_held, idle_held, queue_in, record_in, bench_in, Whole, slots_in, state_in, StepsIn, put_entries, Becomes}
 use Rattle.bench.specs.Inner.Layout.{Tells}
-use Rattle.bench.specs.Inner.Walk.{walking, walked_one}
+use Rattle.bench.specs.Inner.Walk.{walking, rests, walked_one}
 use Rattle.bench.proofs.LayoutLaws.{queue_is, process_is, Put, put_set, Changes, queues_changed, processes_changed}
 use Rattle.bench.proofs.WalkLaws.{waited, with_steps_lem}
 use Rattle.bench.specs.declared.Bench.{Bench as HeldBench}
@@ -64,12 +68,44 @@ going p n r owner t resets Nil e = ever e
 going p n r owner t resets Lost e = ever e
 going p n r owner t resets Full e = ever e
 
+-- a call begins at no idle stage
+first_busy : (c : Call) → is_idle (first_stage c) ≡ false
+first_busy (Push node) = refl
+first_busy Pop = refl
+first_busy (Take q) = refl
+
+not_idle : (t : Bool) → (t && true) ≡ false → t ≡ false
+not_idle true e = e
+not_idle false e = refl
+
 -- the record with which a process makes its step, from the one that waits
 module _ (calls : List Call) (n : ℕ) (w : Process) where
   pub same_b2 : (closing : Bool) → (cond closing w (ready calls n w)).b2 ≡ w.b2
   same_b2 true = refl
   same_b2 false =
       either_way (λ (x : Process). x.b2 ≡ w.b2) (is_idle w.stage && ltb w.next w.stop) (λ _. refl) (λ _. refl)
+
+  -- it is idle exactly where it rests
+  pub idle_rests : (closing : Bool) → rests closing w ≡ true → is_idle (cond closing w (ready calls n w)).stage ≡ true
+  idle_rests true e = and_0 (is_idle w.stage) true e
+  idle_rests false e =
+      let over = le-ltb w.next w.stop (leb-true w.stop w.next (and_1 (is_idle w.stage) (leb w.stop w.next) e)) in
+      let i = and_0 (is_idle w.stage) (leb w.stop w.next) e in
+      rw (over, i) i
+
+  pub busy_works : (closing : Bool) → rests closing w ≡ false → is_idle (cond closing w (ready calls n w)).stage ≡ false
+  busy_works true e = not_idle (is_idle w.stage) e
+  busy_works false e =
+      either_way (λ (x : Process). is_idle x.stage ≡ false) (is_idle w.stage && ltb w.next w.stop) (λ _. first_busy (get_or calls w.next Pop))
+      (λ k. split (is_idle w.stage) refl k)
+    where
+      split : (t : Bool) → is_idle w.stage ≡ t → (is_idle w.stage && ltb w.next w.stop) ≡ false → is_idle w.stage ≡ false
+      split false i k = i
+      split true i k = absurd (by (dec_lt w.next w.stop))
+        where
+          by : Dec (w.next < w.stop) → ⊥
+          by (yes u) = ever (sym (ap (λ (t : Bool). t && ltb w.next w.stop) i ∙ lt-ltb w.next w.stop u) ∙ k)
+          by (no u) = ever (sym (ap (λ (t : Bool). t && leb w.stop w.next) i ∙ le-leb w.stop w.next (omega arith)) ∙ e)
 
 -- a bench with its steps counted further
 abbrev pub with_steps : HeldBench → ℕ → HeldBench

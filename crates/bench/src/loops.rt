@@ -4,12 +4,21 @@ ghost use Rattle.base.specs.Lists.{list_of};
 ghost use Rattle.runs.specs.Run.{close as close_of, closing_steps};
 ghost use Rattle.runs.specs.Inner.Half.{half_done};
 ghost use Rattle.bench.specs.Inner.Layout.{process_at_in, state_in, Becomes, ToWalk, ToClose};
-ghost use Rattle.bench.specs.Inner.Walk.{walked_from};
+ghost use Rattle.records.specs.Inner.Records.{process_in};
+ghost use Rattle.bench.specs.Inner.Walk.{rests as rests_of, walked_from};
 
 use crate::turn::{Turn, step_slots};
 use crate::{Bench, CLOSING_ROUNDS};
 use records::{ALL_SLOTS, Process};
 use runfile::Shape;
+
+// Whether a process is in no call and begins none. It is told of the record where it stands: most steps of a schedule may be such, and to take all of
+// the record apart for each costs half as much again.
+fn rests(of: &Process, closing: bool) -> bool
+    ensures { result ≡ rests_of closing (process_in of.now) }
+{
+    of.is_idle() && (closing || of.stop <= of.next)
+}
 
 // A schedule, step by step, and the closing: one function, so that there is one place that steps. In the closing a process that is in no call is
 // passed over, and begins none. Once the log has every call of the file no process has one left, so the rest of the schedule is counted. The bench is
@@ -28,7 +37,7 @@ pub(crate) fn walk(
     ensures { Becomes shape.size state.entries log.old (walked_from closing file.now shape schedule.now state slots.old) result slots.new log.new }
 {
     let mut run = state;
-    let idle = if closing { 0 } else { 1 };
+    let idle: u16 = if closing { 0 } else { 1 };
     for (i, &p) in schedule.iter().enumerate() {
         if shape.calls <= run.entries {
             let left = if closing { 0 } else { schedule.len() - i };
@@ -36,11 +45,11 @@ pub(crate) fn walk(
             return run;
         }
         let (at, n) = (usize::from(p), run.steps);
-        let of = run.processes[at].ready(file, shape, closing, n);
-        if of.is_idle() {
+        if rests(&run.processes[at], closing) {
             run.steps = n + idle;
             continue;
         }
+        let of = run.processes[at].ready(file, shape, closing, n);
         run.steps = n + 1;
         let q = of.queue_of(p);
         let on = usize::from(q);

@@ -1,5 +1,5 @@
 -- What the program's one loop does with a schedule, in the closing or not.
-use Rattle.std.specs.Prelude.{ℕ, Bool, cond, List, [], ◌∷◌}
+use Rattle.std.specs.Prelude.{ℕ, Bool, cond, ◌&&◌, ◌||◌, leb, List, [], ◌∷◌}
 use Rattle.word.specs.Stages.{is_idle}
 use Rattle.runfile.specs.File.{first_calls}
 use Rattle.runfile.specs.declared.Call.{Call}
@@ -12,6 +12,10 @@ use Rattle.bench.specs.Inner.Layout.{state_in}
 -- the record with which process p makes its step: in the closing no call is begun
 abbrev pub walking : Bool → List Call → ℕ → State → Process
 walking closing calls p s = cond closing (process_at s.bench p) (turning calls p s)
+
+-- a process that is in no call and begins none
+abbrev pub rests : Bool → Process → Bool
+rests closing r = is_idle r.stage && (closing || leb r.stop r.next)
 
 -- a process in no call is passed over in the closing, and else its idle step counts
 unfoldable pub walked_one : Bool → ℕ → ℕ → List Call → ℕ → State → State

@@ -17,14 +17,14 @@ use Rattle.runs.proofs.TurnLaws.{calls_in_lem, entries_few, gone_most}
 use Rattle.runfile.specs.declared.Shape.{Shape}
 use Rattle.records.specs.Inner.Records.{process_in}
 use Rattle.bench.specs.Inner.Layout.{record_in, state_in, sizes_in, fresh_held, Becomes, ToWalk, StepsIn, Tells}
-use Rattle.bench.specs.Inner.Walk.{walked_one}
+use Rattle.bench.specs.Inner.Walk.{rests, walked_one}
 use Rattle.bench.specs.declared.Bench.{Bench}
 use Rattle.bench.specs.declared.Queue.{Queue}
 use Rattle.bench.specs.declared.turn.Told.{Told}
 use Rattle.steps.specs.Packed.{PackedStep}
 use Rattle.records.specs.declared.Process.{Process as HeldProcess}
 use Rattle.bench.proofs.LayoutLaws.{held_resets, held_b2}
-use Rattle.bench.proofs.WayLaws.{with_steps, same_b2, way_idle, on_queue, way_on, way_ends}
+use Rattle.bench.proofs.WayLaws.{with_steps, same_b2, idle_rests, busy_works, way_idle, on_queue, way_on, way_ends}
 use Rattle.bench.proofs.RunLaws.{Walked, walked_start, walked_more, walked_all, walked_end}
 use Rattle.bench.proofs.loops.walk.Invariants.{calls_of}
 use Rattle.bench.proofs.loops.walk.Goals.{then-closing, else-closing, then-closing-2, else-closing-2}
@@ -66,9 +66,13 @@ module _ (file : List ℕ) (closing : Bool) (i : ℕ) {a : Shape} {schedule : Li
     on_is : {q : ℕ} → q ≡ queue_of (get_or schedule i 0) r.call → q ≡ queue_of process r.call
     on_is e = e ∙ ap (λ (p : ℕ). queue_of p r.call) (sym is)
 
-    q_small : is_idle r.stage ≡ false → {q : ℕ} → q ≡ queue_of (get_or schedule i 0) r.call → q < 8
-    q_small busy {q = q} e =
-        on_queue (sizes_in a) given.fit closing (calls_of file a) calls_are run slots log come.0.sound process below_P r ready_is busy q (on_is e)
+    busy : rests closing (record_in run process) ≡ false → is_idle r.stage ≡ false
+    busy works = ap (λ (x : Process). is_idle x.stage) ready_is ∙ busy_works (calls_of file a) run.steps (record_in run process) closing works
+
+    q_small : rests closing (record_in run process) ≡ false → {q : ℕ} → q ≡ queue_of (get_or schedule i 0) r.call → q < 8
+    q_small works {q = q} e =
+        on_queue (sizes_in a) given.fit closing (calls_of file a) calls_are run slots log come.0.sound process below_P r ready_is (busy works) q
+        (on_is e)
 
     -- it is in none, and waits
     waits : is_idle r.stage ≡ true → {m : ℕ} → m ≡ cond closing 0 1
@@ -79,8 +83,8 @@ module _ (file : List ℕ) (closing : Bool) (i : ℕ) {a : Shape} {schedule : Li
         come.0.becomes.whole)
 
     -- its step, and the record that it leaves
-    module _ (busy : is_idle r.stage ≡ false) {q number : ℕ} (same : q ≡ number) (call_on : number ≡ queue_of (get_or schedule i 0) r.call)
-        {o : PackedStep} {slots' : List ℕ}
+    module _ (works : rests closing (record_in run process) ≡ false) {q number : ℕ} (same : q ≡ number)
+        (call_on : number ≡ queue_of (get_or schedule i 0) r.call) {o : PackedStep} {slots' : List ℕ}
         (step : StepsIn a.width a.size (get_or run.queues q fresh_held).word slots number r.stage o slots') {z : HeldProcess}
         (left : process_in z ≡ process_after run.steps (get_or run.queues q fresh_held).resets r o.next) where
       on_q : q ≡ queue_of process r.call
@@ -107,14 +111,14 @@ module _ (file : List ℕ) (closing : Bool) (i : ℕ) {a : Shape} {schedule : Li
 
       stored_is : (n : ℕ) → stored n ≡ set run.queues q (record { word = o.word; resets = n })
       stored_is n =
-          rw (get_or-set_same run.queues q with_word fresh_held (omega (arith, come.0.becomes.whole.queues, q_small busy (same ∙ call_on))))
+          rw (get_or-set_same run.queues q with_word fresh_held (omega (arith, come.0.becomes.whole.queues, q_small works (same ∙ call_on))))
           (set-set run.queues q with_word (record { word = o.word; resets = n }))
 
       stays : is_idle z.stage ≡ false
           → Walked (sizes_in a) a.calls state.entries closing (calls_of file a) schedule log₀ (state_in a.size state slots₀) (i + 1)
           (after (set run.queues q with_word) run.entries run.gone) slots' log
       stays half = more
-          (way_on (sizes_in a) given.fit closing (calls_of file a) calls_are run slots log come.0.sound process below_P r ready_is busy q on_q o
+          (way_on (sizes_in a) given.fit closing (calls_of file a) calls_are run slots log come.0.sound process below_P r ready_is (busy works) q on_q o
           slots' stepped come.0.becomes.whole z left half)
 
       ends : {m : Told} {log' : List ℕ}
@@ -125,7 +129,7 @@ module _ (file : List ℕ) (closing : Bool) (i : ℕ) {a : Shape} {schedule : Li
           subst (λ (l : List Queue). Walked (sizes_in a) a.calls state.entries closing (calls_of file a) schedule log₀ (state_in a.size state slots₀) (i + 1)
           (after l (run.entries + m.more) (run.gone + m.gone)) slots' log')
           (sym (stored_is m.resets)) (more
-          (way_ends (sizes_in a) given.fit closing (calls_of file a) calls_are run slots log come.0.sound process below_P r ready_is busy q on_q o
+          (way_ends (sizes_in a) given.fit closing (calls_of file a) calls_are run slots log come.0.sound process below_P r ready_is (busy works) q on_q o
           slots' stepped come.0.becomes.whole z left m log'
           (subst (λ (p : ℕ). Tells p run.steps run.entries r (record_in run q) (get_or run.queues q fresh_held).word
           (get_or run.queues q fresh_held).resets o log m log') (sym is) told)))
@@ -152,36 +156,39 @@ returns-then-shape-run c =
     _ _ _ _ _ _ c.loop-i.invariant.1 _ (inr c.if-shape-run.true)
     (elim c.if-closing-2.branch [ then-closing-2 w ↦ rw w.if-closing-2.true w.left-is | else-closing-2 w ↦ rw w.if-closing-2.false w.left-is ])
 
-pub overflow_add-run-then-is_idle : goal.overflow_add-run-then-is_idle
-overflow_add-run-then-is_idle c =
+pub overflow_add-run-then-rests : goal.overflow_add-run-then-rests
+overflow_add-run-then-rests c =
     omega (arith, steps_few c.args.file.now _ _ c.requires c.loop-i.invariant.1 c.loop-i-test.true _ refl, c.loop-i.invariant.0, one_most c.args.closing)
 
-pub loop-i-preserved-then-is_idle : goal.loop-i-preserved-then-is_idle
-loop-i-preserved-then-is_idle c = (
+pub loop-i-preserved-then-rests : goal.loop-i-preserved-then-rests
+loop-i-preserved-then-rests c = (
   c.loop-i.invariant.0,
-  waits c.args.file.now _ _ c.requires c.loop-i.invariant.1 c.loop-i-test.true _ c.from-at.ensures c.ready-of.ensures
-      (sym c.is_idle.ensures ∙ c.if-is_idle.true) c.loop-i.invariant.0,
+  waits c.args.file.now _ _ c.requires c.loop-i.invariant.1 c.loop-i-test.true _ c.from-at.ensures refl
+      (idle_rests (calls_of c.args.file.now c.args.shape) _ _ c.args.closing (sym c.rests.ensures ∙ c.if-rests.true)) c.loop-i.invariant.0,
 )
 
 pub bounds-run-on : goal.bounds-run-on
 bounds-run-on c =
     q_small c.args.file.now _ _ c.requires c.loop-i.invariant.1 c.loop-i-test.true _ c.from-at.ensures c.ready-of.ensures
-    (sym c.is_idle.ensures ∙ c.if-is_idle.false) (c.from-on.ensures ∙ c.queue_of-q.ensures)
+    (sym c.rests.ensures ∙ c.if-rests.false) (c.from-on.ensures ∙ c.queue_of-q.ensures)
 
 pub step_slots-stepped-requires : goal.step_slots-stepped-requires
 step_slots-stepped-requires c = (
   q_small c.args.file.now _ _ c.requires c.loop-i.invariant.1 c.loop-i-test.true _ c.from-at.ensures c.ready-of.ensures
-      (sym c.is_idle.ensures ∙ c.if-is_idle.false) c.queue_of-q.ensures,
+      (sym c.rests.ensures ∙ c.if-rests.false) c.queue_of-q.ensures,
   c.requires.fit.size.1,
 )
 
 pub bounds-run-on-in-loop-i : goal.bounds-run-on-in-loop-i
 bounds-run-on-in-loop-i c =
     q_small c.args.file.now _ _ c.requires c.loop-i.invariant.1 c.loop-i-test.true _ c.from-at.ensures c.ready-of.ensures
-    (sym c.is_idle.ensures ∙ c.if-is_idle.false) (c.from-on.ensures ∙ c.queue_of-q.ensures)
+    (sym c.rests.ensures ∙ c.if-rests.false) (c.from-on.ensures ∙ c.queue_of-q.ensures)
 
 pub bounds-run-at-then-not-is_idle : goal.bounds-run-at-then-not-is_idle
 bounds-run-at-then-not-is_idle c = p_small c.args.file.now _ _ c.requires c.loop-i.invariant.1 c.loop-i-test.true _ c.from-at.ensures
+
+pub bounds-run-at-in-loop-i-2 : goal.bounds-run-at-in-loop-i-2
+bounds-run-at-in-loop-i-2 c = p_small c.args.file.now _ _ c.requires c.loop-i.invariant.1 c.loop-i-test.true _ c.from-at.ensures
 
 pub bounds-run-at-in-loop-i : goal.bounds-run-at-in-loop-i
 bounds-run-at-in-loop-i c = p_small c.args.file.now _ _ c.requires c.loop-i.invariant.1 c.loop-i-test.true _ c.from-at.ensures
@@ -189,8 +196,8 @@ bounds-run-at-in-loop-i c = p_small c.args.file.now _ _ c.requires c.loop-i.inva
 pub loop-i-preserved-then-not-is_idle : goal.loop-i-preserved-then-not-is_idle
 loop-i-preserved-then-not-is_idle c = (
   c.loop-i.invariant.0,
-  stays c.args.file.now _ _ c.requires c.loop-i.invariant.1 c.loop-i-test.true _ c.from-at.ensures c.ready-of.ensures (sym c.is_idle.ensures ∙ c.if-is_idle.false)
-      c.from-on.ensures c.queue_of-q.ensures c.step_slots-stepped.ensures c.after-then.ensures (sym c.is_idle-in-loop-i.ensures ∙ c.if-not-is_idle.true),
+  stays c.args.file.now _ _ c.requires c.loop-i.invariant.1 c.loop-i-test.true _ c.from-at.ensures c.ready-of.ensures (sym c.rests.ensures ∙ c.if-rests.false)
+      c.from-on.ensures c.queue_of-q.ensures c.step_slots-stepped.ensures c.after-then.ensures (sym c.is_idle.ensures ∙ c.if-not-is_idle.true),
 )
 
 pub invariant_of-turn : goal.invariant_of-turn
@@ -200,7 +207,7 @@ invariant_of-turn c =
     let l = c.loop-i.run in
     let counted = c.loop-i.invariant.1.0.counted in
     let small = q_small c.args.file.now _ _ c.requires c.loop-i.invariant.1 c.loop-i-test.true _ c.from-at.ensures c.ready-of.ensures
-    (sym c.is_idle.ensures ∙ c.if-is_idle.false) (c.from-on.ensures ∙ c.queue_of-q.ensures) in record {
+    (sym c.rests.ensures ∙ c.if-rests.false) (c.from-on.ensures ∙ c.queue_of-q.ensures) in record {
       few = (
         omega (arith, few),
         omega (
@@ -235,7 +242,7 @@ overflow_add-run-in-loop-i-3 c =
 pub loop-i-preserved : goal.loop-i-preserved
 loop-i-preserved c = (
   c.loop-i.invariant.0,
-  ends c.args.file.now _ _ c.requires c.loop-i.invariant.1 c.loop-i-test.true _ c.from-at.ensures c.ready-of.ensures (sym c.is_idle.ensures ∙ c.if-is_idle.false)
+  ends c.args.file.now _ _ c.requires c.loop-i.invariant.1 c.loop-i-test.true _ c.from-at.ensures c.ready-of.ensures (sym c.rests.ensures ∙ c.if-rests.false)
       c.from-on.ensures c.queue_of-q.ensures c.step_slots-stepped.ensures c.after-then.ensures c.tell-told.ensures,
 )
 
