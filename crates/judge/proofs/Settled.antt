@@ -12,13 +12,17 @@ use Rattle.base.proofs.Settled.{one_value}
 use Rattle.call_log.specs.declared.Entry.{Entry}
 use Rattle.call_log.specs.Decode.{entry_count_of, entry_at}
 use Rattle.rules.specs.declared.Fault.{Fault}
-use Rattle.rules.specs.Judge.{verdict_in, judge_of}
+use Rattle.rules.specs.Judge.{Verdict, verdict_in, judge_of}
 use Rattle.rules.proofs.Settled.{one_answer}
 use Rattle.judge.specs.Inner.Orders.{has_order, Orders}
 use Rattle.judge.proofs.KeyLaws.{same_key, no_more}
 
 pub judge : (bytes : List ℕ) (r s : Result (Unit {0}) Fault) → verdict_in r ≡ judge_of bytes → verdict_in s ≡ judge_of bytes → r ≡ s
 judge bytes r s p q = one_answer r s (one_value p q)
+
+-- and the verdict that an answer says
+pub judge_verdict : (bytes : List ℕ) (r s : Verdict) → r ≡ judge_of bytes → s ≡ judge_of bytes → r ≡ s
+judge_verdict bytes r s = one_value
 
 -- how many keys, and every lent number: there is one list of a log's keys
 pub in_order : (bytes : List ℕ) (c c' : ℕ) (x x' : List ℕ) → Orders bytes c x → Orders bytes c' x' → (c ≡ c') × (x ≡ x')

@@ -5,7 +5,7 @@ ghost use Rattle.std.specs.Prelude.{◌≡◌};
 ghost use Rattle.racks.specs.Rack.{refusal_number};
 
 // The bytes are no rack; a reply for each file has no room.
-#[derive(Clone, Copy)]
+#[derive(Clone, Copy, PartialEq, Eq)]
 pub enum Refusal {
     NoRack,
     NoRoom,
