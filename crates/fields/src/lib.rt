@@ -18,15 +18,15 @@ pub const UPPER: usize = 65536;
 // The last step at which a call may end, by rule 1.
 const LAST_END: u16 = 32766;
 
-// Whether a call can have had such a result, with a node or with none.
+// Whether a call can have had such a result, with a node or with none. `&` and `|` and no `match`, here and in the four tests of an entry: nothing
+// foretells what the next call did, so that a branch on it costs more than all comparisons.
 fn possible(kind: u8, res: u8, with_node: bool) -> bool
     ensures { result ≡ possible kind res with_node }
 {
-    match (kind, res) {
-        (PUSH, DONE | FULL) | (BOTTOM_POP | TOP_POP, DONE) => with_node,
-        (BOTTOM_POP | TOP_POP, NIL) | (TOP_POP, LOST) => !with_node,
-        _ => false,
-    }
+    let pop = (kind == BOTTOM_POP) | (kind == TOP_POP);
+    let node = (kind == PUSH) & ((res == DONE) | (res == FULL)) | pop & (res == DONE);
+    let none = pop & (res == NIL) | (kind == TOP_POP) & (res == LOST);
+    with_node & node | !with_node & none
 }
 
 // Rule 1.
@@ -60,25 +60,25 @@ pub fn moment_right(wanted: bool, e: Entry) -> bool
 pub fn bears(e: Entry) -> bool
     ensures { result ≡ bears_is e }
 {
-    !matches!(e.what(), What::Full | What::TopNil | What::TopLost)
+    (e.kind == BOTTOM_POP) | (e.result == DONE)
 }
 
 pub fn pushed(e: Entry) -> bool
     ensures { result ≡ same What.Pushed (what_is e) }
 {
-    matches!(e.what(), What::Pushed)
+    (e.kind == PUSH) & (e.result == DONE)
 }
 
 pub fn full(e: Entry) -> bool
     ensures { result ≡ same What.Full (what_is e) }
 {
-    matches!(e.what(), What::Full)
+    (e.kind == PUSH) & (e.result != DONE)
 }
 
 pub fn top_nil(e: Entry) -> bool
     ensures { result ≡ is_top_nil (what_is e) }
 {
-    matches!(e.what(), What::TopNil | What::TopLost)
+    (e.kind != PUSH) & (e.kind != BOTTOM_POP) & (e.result != DONE)
 }
 
 // The moment after the last take of the call's process from its queue, where it was this before the call; 0 is none, by the public promise `took_after`.
