@@ -19,14 +19,14 @@ pub const UPPER: usize = 65536;
 const LAST_END: u16 = 32766;
 
 // Whether a call can have had such a result, with a node or with none. `&` and `|` and no `match`, here and in the four tests of an entry: nothing
-// foretells what the next call did, so that a branch on it costs more than all comparisons.
+// foretells what the next call did, so that a branch on each case costs more than all comparisons.
 fn possible(kind: u8, res: u8, with_node: bool) -> bool
     ensures { result ≡ possible kind res with_node }
 {
     let pop = (kind == BOTTOM_POP) | (kind == TOP_POP);
     let node = (kind == PUSH) & ((res == DONE) | (res == FULL)) | pop & (res == DONE);
     let none = pop & (res == NIL) | (kind == TOP_POP) & (res == LOST);
-    with_node & node | !with_node & none
+    if with_node { node } else { none }
 }
 
 // Rule 1.
